@@ -276,7 +276,7 @@ second_keeps Xor x y a b e fits fits' p q = cc
 stays : (values : Values) (rhs : Rhs) → BecomesRhs values rhs rhs
 stays values rhs = record { traps = refl; value = refl; count = omega arith }
 
--- one after the other
+-- where r may become s, and s may become t, r may become t
 followed : (values : Values) (r s t : Rhs) → BecomesRhs values r s → BecomesRhs values s t → BecomesRhs values r t
 followed values r s t one two = record { traps = two.traps ∙ one.traps; value = two.value ∙ one.value; count = omega (arith, one.count, two.count) }
 

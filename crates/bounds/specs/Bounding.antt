@@ -199,7 +199,7 @@ span_un_op Not s = span_op Eq s (span (pos 0) (pos 0))
 
 -- ---- facts of operators
 
--- the fact of an operator's value
+-- what is known of an operator's value by what is known of its operands
 abbrev pub bounds_of : Op → Fact → Fact → Fact
 bounds_of op Never y = Never
 bounds_of op (Fixed a) Never = Never

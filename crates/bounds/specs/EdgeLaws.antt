@@ -79,7 +79,7 @@ rhs_holds facts values (Binary op a b) h fits safe =
 
 -- ---- tests: what holds
 
--- a fact that holds may be set
+-- facts that hold still do where one of them is replaced by a fact that holds of its variable's value
 set_holds : (facts : List Fact) (values : Values) (x : ℕ) (k : Fact) → AreBounds facts values → Bounds k (values x)
     → AreBounds (slice_set facts x k) values
 set_holds facts values x k h here = record { each = λ y. at facts x y (h.each y) (λ same. subst (λ z. Bounds k (values z)) (sym same) here) }

@@ -71,7 +71,7 @@ pub floor_low : (z : ℤ) → end_value Least ≤ℤ z → end_value (floor z) �
 unfolding floor
 floor_low z low = floor_in_low descending z low
 
--- the end stands among these, and no end before it has a lower place
+-- the end stands in the list, and no end before it there has a lower index
 descends : End → List End → Bool
 descends e [] = false
 descends e (f ∷ ends) = if nat_eq (index e) (index f) then true else nat_le (index e) (index f) && descends e ends

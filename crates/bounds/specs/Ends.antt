@@ -3,7 +3,7 @@ use Rattle.std.specs.Prelude.{ℕ, if◌then◌else◌, nat_le, List, [], ◌∷
 use Rattle.bounds.specs.declared.ends.End.{End}
 use Rattle.bounds.specs.declared.ends.End.TheVariants.{Least, Min32, Min16, Min8, MinusOne, Zero, One, Max8, MaxU8, Max16, MaxU16, Max32, MaxU32, Greatest}
 
--- the place of an end, from the least
+-- the number of an end, counted from the least
 abbrev pub index : End → ℕ
 index Least = 0
 index Min32 = 1
@@ -65,10 +65,10 @@ floor z = floor_in descending z
 unfoldable pub ceiling : ℤ → End
 ceiling z = ceiling_in ascending z
 
--- the lower of two ends
+-- the lesser of two ends
 abbrev pub lower : End → End → End
 lower e f = if nat_le (index e) (index f) then e else f
 
--- the upper of two ends
+-- the greater of two ends
 abbrev pub upper : End → End → End
 upper e f = if nat_le (index e) (index f) then f else e

@@ -55,13 +55,13 @@ index_small Max32 = omega arith
 index_small MaxU32 = omega arith
 index_small Greatest = omega arith
 
--- what the lower of two ends is
+-- m is the lesser of the ends e and f
 pub record IsLower (e f m : End) : Type 0 where
   pub left : index m ≤ index e
   pub right : index m ≤ index f
   pub either : (n : ℕ) → n ≤ index e → n ≤ index f → n ≤ index m
 
--- and the upper
+-- m is the greater of the ends e and f
 pub record IsUpper (e f m : End) : Type 0 where
   pub left : index e ≤ index m
   pub right : index f ≤ index m
@@ -79,7 +79,7 @@ at_most a b h = grind arith
 differs : (a b : ℕ) → nat_le a b ≡ false → a ≡ b → ⊥
 differs a b h same = grind arith
 
--- the lower one is
+-- `lower` answers the lesser of two ends
 pub lower_is : (e f : End) → IsLower e f (lower e f)
 lower_is e f = cases (nat_le (index e) (index f)) refl
   where
@@ -91,7 +91,7 @@ lower_is e f = cases (nat_le (index e) (index f)) refl
         let le : index f ≤ index e = above _ _ is in
         record { left = le; right = omega arith; either = λ n p q. q }
 
--- the upper one is
+-- `upper` answers the greater of two ends
 pub upper_is : (e f : End) → IsUpper e f (upper e f)
 upper_is e f = cases (nat_le (index e) (index f)) refl
   where
@@ -129,7 +129,7 @@ below_trans (Between e f) (Between g h) (Fixed c) p q = absurd q
 below_trans (Between e f) (Between g h) (Between i j) p q =
     record { low = omega (arith, p.low, q.low); high = omega (arith, p.high, q.high) }
 
--- antisymmetric
+-- two facts that are below each other are one
 pub below_antisym : (x y : Fact) → BelowFact x y → BelowFact y x → x ≡ y
 below_antisym Never Never p q = refl
 below_antisym Never (Fixed b) p q = absurd q

@@ -15,3 +15,4 @@ pub mod EdgeLaws
 pub mod NonemptyLaws
 pub mod BoundRules
 pub mod BoundRuleLaws
+pub mod Coding

@@ -50,19 +50,19 @@ ceiling_bottom z le = index_is_one Least (ceiling z) (omega (arith, ceiling_best
 pub below_all : (x : Fact) → BelowFact x (Between Least Greatest)
 below_all x = reaches_by x Least Greatest (fits_low _ (low_fits x)) (fits_high _ (high_fits x))
 
--- at most, in two steps
+-- at most is transitive
 pub le_trans : (a b c : ℤ) → a ≤ℤ b → b ≤ℤ c → a ≤ℤ c
 le_trans a b c p q = omega (arith, ints, p, q)
 
--- tests of order
+-- where a is found below b, a + 1 is at most b
 pub lt_is : (a b : ℤ) → int_lt a b ≡ true → (a +ℤ pos 1) ≤ℤ b
 lt_is a b h = grind (arith, ints)
 
--- where none is below
+-- where a is not found below b, b is at most a
 lt_not : (a b : ℤ) → int_lt a b ≡ false → b ≤ℤ a
 lt_not a b h = grind (arith, ints)
 
--- and found so
+-- where a + 1 is at most b, a is found below b
 is_lt : (a b : ℤ) → (a +ℤ pos 1) ≤ℤ b → int_lt a b ≡ true
 is_lt a b h = grind (arith, ints)
 
@@ -135,7 +135,7 @@ surest_mono s t low high within = cases _ refl _ refl _ refl _ refl
     cases false is false is' false it false it' =
         record { low = floor_mono _ _ low within.low; high = ceiling_mono _ _ high within.high }
 
--- a span that lies in another is rounded to a fact below
+-- a span that lies in another is rounded to a fact that is below that of the other
 pub rounded_mono : (s t : Span) → WithinIfFits s t → BelowFact (rounded s) (rounded t)
 rounded_mono s t is_within = cases (fits t) refl
   where

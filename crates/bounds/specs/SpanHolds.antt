@@ -325,11 +325,11 @@ contrary true true h k = k
 contrary true false h k = let bad : false ≡ true = h refl in absurd (cc)
 contrary false b h k = refl
 
--- what is below by the ends
+-- a is below b where the greatest that a can be is below the least that b can be
 lt_low : (a b h l : ℤ) → a ≤ℤ h → l ≤ℤ b → int_lt h l ≡ true → int_lt a b ≡ true
 lt_low a b h l p q is = grind (arith, ints)
 
--- what is at most by the ends
+-- a is at most b where the greatest that a can be is at most the least that b can be
 le_low : (a b h l : ℤ) → a ≤ℤ h → l ≤ℤ b → int_le h l ≡ true → int_le a b ≡ true
 le_low a b h l p q is = let m : h ≤ℤ l = le_is _ _ is in is_le a b (omega (arith, ints, p, q, m))
 

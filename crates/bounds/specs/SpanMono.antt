@@ -99,7 +99,7 @@ natural_quotient (pos a) (pos b) p q = refl
 natural_quotient (negsuc a) b p q = absurd (omega (arith, ints, p))
 natural_quotient (pos a) (negsuc b) p q = absurd (omega (arith, ints, q))
 
--- powers of two
+-- a power of two is at most one with a greater exponent
 pub power_mono : (i j : ℕ) → i ≤ j → 2 ^ i ≤ 2 ^ j
 power_mono i j le = pow_mono le
 
@@ -379,7 +379,7 @@ span_mono And s s' t t' p q v w = and_mono s s' t t' v w
 span_mono Or s s' t t' p q v w = or_mono s s' t t' p q v w
 span_mono Xor s s' t t' p q v w = or_mono s s' t t' p q v w
 
--- and each on one number
+-- so does each operator of one number: a span that lies in another is taken to a span that lies in that of the other
 pub span_un_mono : (op : UnOp) (s s' : Span) → Within s s' → WithinIfFits (span_un_op op s) (span_un_op op s')
 span_un_mono Neg s s' v =
     lies _ _ (record { low = omega (arith, ints, v.high); high = omega (arith, ints, v.low) })

@@ -18,7 +18,7 @@ use Rattle.bounds.specs.Facts.{low_of, high_of, Bounds}
 use Rattle.bounds.specs.RoundingLaws.{le_trans}
 use Rattle.bounds.specs.SpanHolds.{ones_end, unsigned_is}
 
--- an interval of one number holds of that alone, as that of a comparison that is decided
+-- an interval whose two ends are one holds of the number of this end alone; so it is where a comparison is decided
 pub one_number : (e : End) (z : ℤ) → Bounds (Between e e) z → z ≡ end_value e
 one_number e z h = omega (arith, ints, h.low, h.high)
 

@@ -58,7 +58,7 @@ pub(crate) fn end_value(end: End) -> i64
 }
 
 /// The place of an end, from the least.
-fn index(end: End) -> u8
+pub(crate) fn index(end: End) -> u8
     ensures { result ≡ index end }
 {
     match end {

@@ -12,7 +12,7 @@ use fix_solve::{AllNews, Lattice};
 pub enum Fact {
     /// It has none: no run comes here.
     Never,
-    /// It is this number.
+    /// The value is this number.
     Fixed(i64),
     /// It is from the first end to the second.
     Between(End, End),

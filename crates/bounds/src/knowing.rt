@@ -7,7 +7,7 @@ use crate::facts::{Fact, are_same, joined_fact};
 use crate::reading::{anything, fact_of_rhs};
 use crate::tests_of::{may_go, narrow};
 use crate::uses::{bounded_operand, bounded_rhs};
-use cond_flow::Knowledge;
+use cond_flow::{Facts, Knowledge};
 use mir_base::{Operand, Rhs, Test};
 
 impl Knowledge for Fact {
@@ -33,23 +33,23 @@ impl Knowledge for Fact {
         are_same(self, other)
     }
 
-    fn of_rhs(known: &[Fact], rhs: Rhs) -> Fact {
+    fn of_rhs(known: &Facts<Fact>, rhs: Rhs) -> Fact {
         fact_of_rhs(known, rhs)
     }
 
-    fn goes(known: &[Fact], test: Test, truth: bool) -> bool {
+    fn goes(known: &Facts<Fact>, test: Test, truth: bool) -> bool {
         may_go(known, test, truth)
     }
 
-    fn narrow(known: &mut [Fact], test: Test, truth: bool) {
+    fn narrow(known: &mut Facts<Fact>, test: Test, truth: bool) {
         narrow(known, test, truth)
     }
 
-    fn operand(known: &[Fact], a: Operand) -> Operand {
+    fn operand(known: &Facts<Fact>, a: Operand) -> Operand {
         bounded_operand(known, a)
     }
 
-    fn rhs(known: &[Fact], rhs: Rhs) -> Rhs {
+    fn rhs(known: &Facts<Fact>, rhs: Rhs) -> Rhs {
         bounded_rhs(known, rhs)
     }
 

@@ -1,10 +1,11 @@
 // The facts of variables, operands and right sides.
-ghost use Rattle.std.specs.Prelude.{◌≡◌, slice_set};
+ghost use Rattle.std.specs.Prelude.{◌≡◌};
 ghost use Rattle.bounds.specs.Edges.{anything, fact_at, fact_of, fact_of_rhs, with_fact};
 
 use crate::ends::End;
 use crate::facts::Fact;
 use crate::rules::{bounds_of, bounds_of_un};
+use cond_flow::Facts;
 use mir_base::{Operand, Rhs};
 
 /// The fact that holds of all numbers.
@@ -15,18 +16,14 @@ pub(crate) fn anything() -> Fact
 }
 
 /// The fact of a variable.
-pub(crate) fn fact_at(facts: &[Fact], x: usize) -> Fact
+pub(crate) fn fact_at(facts: &Facts<Fact>, x: usize) -> Fact
     ensures { result ≡ fact_at facts.now x }
 {
-    if x < facts.len() {
-        facts[x]
-    } else {
-        anything()
-    }
+    facts.get(x, anything())
 }
 
 /// The fact of an operand.
-pub(crate) fn fact_of(facts: &[Fact], a: Operand) -> Fact
+pub(crate) fn fact_of(facts: &Facts<Fact>, a: Operand) -> Fact
     ensures { result ≡ fact_of facts.now a }
 {
     match a {
@@ -36,7 +33,7 @@ pub(crate) fn fact_of(facts: &[Fact], a: Operand) -> Fact
 }
 
 /// The fact of a right side.
-pub(crate) fn fact_of_rhs(facts: &[Fact], rhs: Rhs) -> Fact
+pub(crate) fn fact_of_rhs(facts: &Facts<Fact>, rhs: Rhs) -> Fact
     ensures { result ≡ fact_of_rhs facts.now rhs }
 {
     match rhs {
@@ -47,20 +44,11 @@ pub(crate) fn fact_of_rhs(facts: &[Fact], rhs: Rhs) -> Fact
 }
 
 /// Sets the fact of an operand, if it is a variable.
-pub(crate) fn put_fact(facts: &mut [Fact], a: Operand, fact: Fact)
+pub(crate) fn put_fact(facts: &mut Facts<Fact>, a: Operand, fact: Fact)
     ensures { facts.new ≡ with_fact a fact facts.old }
 {
     match a {
-        Operand::Var(x) => put_at(facts, x, fact),
+        Operand::Var(x) => facts.set(x, fact),
         Operand::Const(_) => (),
-    }
-}
-
-/// Sets the fact of a variable, if there is one of this number.
-fn put_at(facts: &mut [Fact], x: usize, fact: Fact)
-    ensures { facts.new ≡ slice_set facts.old x fact }
-{
-    if x < facts.len() {
-        facts[x] = fact;
     }
 }

@@ -6,10 +6,11 @@ ghost use Rattle.bounds.specs.Narrowing.{denied, turned};
 use crate::facts::Fact;
 use crate::reading::{fact_of, put_fact};
 use crate::rules::{may_hold, narrowed};
+use cond_flow::Facts;
 use mir_base::{Operand, RelOp, Test};
 
 /// Whether a test may have this truth value.
-pub(crate) fn may_go(facts: &[Fact], test: Test, truth: bool) -> bool
+pub(crate) fn may_go(facts: &Facts<Fact>, test: Test, truth: bool) -> bool
     ensures { result ≡ may_go test truth facts.now }
 {
     let op = relation_of(test, truth);
@@ -19,7 +20,7 @@ pub(crate) fn may_go(facts: &[Fact], test: Test, truth: bool) -> bool
 }
 
 /// Leaves the facts where a test has this truth value: those of both operands are narrowed.
-pub(crate) fn narrow(facts: &mut [Fact], test: Test, truth: bool)
+pub(crate) fn narrow(facts: &mut Facts<Fact>, test: Test, truth: bool)
     ensures { facts.new ≡ facts_along test truth facts.old }
 {
     let op = relation_of(test, truth);

@@ -8,10 +8,11 @@ use crate::facts::Fact;
 use crate::reading::{fact_at, fact_of, fact_of_rhs};
 use crate::rules::bounds_of;
 use crate::spans::span_of;
+use cond_flow::Facts;
 use mir_base::{Op, Operand, Rhs};
 
 /// The operand, or the number that its variable is known to be.
-pub(crate) fn bounded_operand(facts: &[Fact], a: Operand) -> Operand
+pub(crate) fn bounded_operand(facts: &Facts<Fact>, a: Operand) -> Operand
     ensures { result ≡ bounded_operand facts.now a }
 {
     match a {
@@ -32,7 +33,7 @@ fn number_or(fact: Fact, x: usize) -> Operand
 }
 
 /// What a right side becomes: its number, or a copy of an operand, and else its operands are replaced.
-pub(crate) fn bounded_rhs(facts: &[Fact], rhs: Rhs) -> Rhs
+pub(crate) fn bounded_rhs(facts: &Facts<Fact>, rhs: Rhs) -> Rhs
     ensures { result ≡ bounded_rhs facts.now rhs }
 {
     match rhs {

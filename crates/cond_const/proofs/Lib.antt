@@ -1,11 +1,1 @@
-pub mod Sound
-pub mod Folds
-pub mod FactLaws
-pub mod Joins
-pub mod JoinCases
-pub mod Nodewise
-pub mod Shapes
-pub mod Whole
-pub mod Rewrites
-pub mod Targets
-pub mod Steps
+pub mod Constants

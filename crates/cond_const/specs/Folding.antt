@@ -1,5 +1,6 @@
--- What is known after a node, along which of its edges it passes, and what a node becomes. Cited by contracts.
-use Rattle.std.specs.Prelude.{ℕ, suc, Bool, true, false, not, if◌then◌else◌, nat_eq, nat_lt, List, [], ◌∷◌, length, map, replicate, slice_set, slice_index_or, pos, Option, Some, None}
+-- What operands, right sides and tests become by what is known of the variables, and the rules of folding. Cited by
+-- contracts.
+use Rattle.std.specs.Prelude.{ℕ, Bool, true, false, not, if◌then◌else◌, nat_eq, ℤ, pos, List, slice_index_or, Option, Some, None}
 use Rattle.std.specs.Ordering.{int_eq}
 use Rattle.mir_base.specs.declared.operators.Op.{Op}
 use Rattle.mir_base.specs.declared.instructions.Operand.{Operand}
@@ -9,17 +10,15 @@ use Rattle.mir_base.specs.declared.instructions.Rhs.TheVariants.{Plain, Unary, B
 use Rattle.mir_base.specs.declared.operators.RelOp.{RelOp}
 use Rattle.mir_base.specs.declared.instructions.Test as tests
 use Rattle.mir_base.specs.declared.instructions.Test.TheVariants.{Rel, Holds, Fails}
-use Rattle.mir_base.specs.Frames.{shared_vars}
+use Rattle.mir_base.specs.Expressions.{may_be_zero}
 use Rattle.mir_base.specs.Numbers.{wrapped, traps, value_of_op, value_of_un_op, relation_holds}
-use Rattle.flow_graph.specs.declared.nodes.Node.{Node}
-use Rattle.flow_graph.specs.declared.nodes.Node.TheVariants.{Start, Skip, Assign, Print, Guard, Call, Test, Return}
+use Rattle.cond_flow.specs.Rules.{Rules}
 use Rattle.cond_const.specs.declared.known.Known.{Known}
 use Rattle.cond_const.specs.declared.known.Known.TheVariants.{Fixed, Varying}
 use Rattle.cond_const.specs.declared.identities.Identity.{Identity}
 use Rattle.cond_const.specs.declared.identities.Identity.TheVariants.{Absent, Itself, Always}
 use Rattle.cond_const.specs.Identities.{identity_same, identity_left, identity_right}
-use Rattle.cond_const.specs.States.{NodeState, Unreached, Knows}
-use Rattle.flow_graph.specs.Graphs.{slot_of}
+use Rattle.cond_const.specs.States.{is_varying, joined_known}
 
 -- what is known of a variable
 abbrev pub known_at : List Known → ℕ → Known
@@ -110,98 +109,39 @@ decided (Fails (Const a)) = Some (int_eq (wrapped a) (pos 0))
 abbrev pub decided_test : List Known → tests.Test → Option Bool
 decided_test known test = decided (resolved_test known test)
 
--- ---- what passes along the edges
+-- a test that is decided has the truth value that it has, and one that is not decided either
+abbrev pub may_be : Bool → Option Bool → Bool
+may_be truth None = true
+may_be true (Some holds) = holds
+may_be false (Some holds) = not holds
 
--- these variables become varying
-abbrev pub all_varying : List ℕ → List Known → List Known
-all_varying [] known = known
-all_varying (x ∷ xs) known = all_varying xs (slice_set known x Varying)
+-- the test may have this truth value
+abbrev pub may_go : tests.Test → Bool → List Known → Bool
+may_go test truth known = may_be truth (decided_test known test)
 
--- before Start: globals are varying, and the others are 0
-abbrev pub first_known : ℕ → ℕ → List Known
-first_known shared size = all_varying (shared_vars shared) (replicate size (Fixed (pos 0)))
+-- ---- the rules
 
--- after Start: globals and received variables are varying, and the others are 0
-abbrev pub start_known : ℕ → List ℕ → ℕ → List Known
-start_known shared received size = all_varying received (first_known shared size)
+-- the number by which it is kept
+abbrev pub number_of : Known → ℤ
+number_of (Fixed c) = c
+number_of Varying = pos 0
 
--- after a call the globals and its variable are varying
-abbrev pub after_call : ℕ → Option ℕ → List Known → List Known
-after_call shared None known = all_varying (shared_vars shared) known
-after_call shared (Some x) known = slice_set (all_varying (shared_vars shared) known) x Varying
+-- a kind and a number stand for the constant if the kind is 0
+abbrev pub decoded_known : ℕ → ℤ → Known
+decoded_known kind number = if nat_eq kind 0 then Fixed number else Varying
 
--- what is known after a node
-abbrev pub known_after : ℕ → List ℕ → Node → List Known → List Known
-known_after shared received (Start next) known = start_known shared received (length known)
-known_after shared received (Skip next) known = known
-known_after shared received (Assign x rhs next) known = slice_set known x (known_rhs known rhs)
-known_after shared received (Print a next) known = known
-known_after shared received (Guard test number next) known = known
-known_after shared received (Call into unit operands next) known = after_call shared into known
-known_after shared received (Test test taken other) known = known
-known_after shared received (Return a) known = known
-
--- a decided test passes its state along the edge that it takes, and one that is not decided along both
-abbrev pub passes_by : ℕ → Option Bool → Bool
-passes_by slot None = nat_lt slot 2
-passes_by slot (Some holds) = nat_eq slot (slot_of holds)
-
--- whether a node passes its state along the edge at this slot
-abbrev pub passes : Node → ℕ → List Known → Bool
-passes (Start next) slot known = nat_eq slot 0
-passes (Skip next) slot known = nat_eq slot 0
-passes (Assign x rhs next) slot known = nat_eq slot 0
-passes (Print a next) slot known = nat_eq slot 0
-passes (Guard test number next) slot known = nat_eq slot 0
-passes (Call into unit operands next) slot known = nat_eq slot 0
-passes (Test test taken other) slot known = passes_by slot (decided_test known test)
-passes (Return a) slot known = false
-
--- what passes along the edge at this slot of a node
-abbrev pub passed_along : ℕ → List ℕ → Node → ℕ → NodeState → NodeState
-passed_along shared received node slot (Unreached size) = Unreached size
-passed_along shared received node slot (Knows known) =
-    if passes node slot known then Knows (known_after shared received node known) else Unreached (length known)
-
--- what is known before Start
-abbrev pub entry_state : ℕ → ℕ → NodeState
-entry_state shared size = Knows (first_known shared size)
-
--- ---- what a node becomes
-
--- a decided test becomes a Skip to the successor that it takes
-abbrev pub folded_test : tests.Test → ℕ → ℕ → Option Bool → Node
-folded_test test taken other None = Test test taken other
-folded_test test taken other (Some holds) = Skip (if holds then taken else other)
-
--- a trap whose test is decided not to hold becomes a Skip
-abbrev pub folded_guard : tests.Test → ℕ → ℕ → Option Bool → Node
-folded_guard test number next None = Guard test number next
-folded_guard test number next (Some true) = Guard test number next
-folded_guard test number next (Some false) = Skip next
-
--- what a node becomes that is reached
-abbrev pub folded_node : List Known → Node → Node
-folded_node known (Start next) = Start next
-folded_node known (Skip next) = Skip next
-folded_node known (Assign x rhs next) = Assign x (folded_rhs known rhs) next
-folded_node known (Print a next) = Print (resolved known a) next
-folded_node known (Guard test number next) =
-    folded_guard (resolved_test known test) number next (decided_test known test)
-folded_node known (Call into unit operands next) = Call into unit (map (resolved known) operands) next
-folded_node known (Test test taken other) = folded_test (resolved_test known test) taken other (decided_test known test)
-folded_node known (Return a) = Return (resolved known a)
-
--- a node that is not reached stays as it is; it is dropped afterwards
-abbrev pub folded_at : NodeState → Node → Node
-folded_at (Unreached size) node = node
-folded_at (Knows known) node = folded_node known node
-
--- the nodes from number n on
-abbrev pub folded_from : ℕ → (ℕ → NodeState) → List Node → List Node
-folded_from n states [] = []
-folded_from n states (node ∷ nodes) = folded_at (states n) node ∷ folded_from (suc n) states nodes
-
--- what the nodes become
-abbrev pub folded_nodes : (ℕ → NodeState) → List Node → List Node
-folded_nodes states nodes = folded_from 0 states nodes
+-- the rules of folding: along the edges of a test what is known stays as it is
+abbrev pub fold_rules : Rules Known
+fold_rules = record {
+  rank = is_varying;
+  height = 1;
+  top = Varying;
+  zero = Fixed (pos 0);
+  joined = joined_known;
+  of_rhs = known_rhs;
+  goes = may_go;
+  along = λ test truth known. known;
+  operand = resolved;
+  rhs = folded_rhs;
+  may_vanish = λ known a. may_be_zero (resolved known a);
+}

@@ -90,11 +90,11 @@ or_ones a fits =
 shl_none : (a : ℤ) → FitsSigned w64 a → wrapped (a *ℤ pos (2 ^ 0)) ≡ a
 shl_none a fits = wraps_to (a *ℤ pos 1) a (omega (arith, ints)) fits
 
--- to the right
+-- 0 shifted to the right is 0
 shr_none : (a : ℤ) → FitsSigned w64 a → wrapped (pos (unsigned a / 2 ^ 0)) ≡ a
 shr_none a fits = sym (shr_is a 0 fits) ∙ back a (of_z w64 a / 2 ^ 0) fits (div-one (of_z w64 a))
 
--- and to the right with the sign
+-- 0 shifted to the right with its sign is 0
 shra_none : (a : ℤ) → int_div_euclid a (pos (2 ^ 0)) ≡ a
 shra_none (pos n) = ap pos (div-one n)
 shra_none (negsuc n) = ap negsuc (div-one n)

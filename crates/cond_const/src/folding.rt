@@ -3,8 +3,8 @@ ghost use Rattle.std.specs.Prelude.{IfOk};
 ghost use Rattle.flow_graph.specs.Passes.{GraphKeeps};
 ghost use Rattle.cond_const.specs.Folded.{IsFolded, IsOnlyFolded, KeepsDivisions};
 
-use crate::least_states::LeastStates;
-use crate::rewriting::rewrite;
+use crate::known::Known;
+use cond_flow::rewritten;
 use flow_graph::Graph;
 use mir_base::Memory;
 use std::alloc::Global;
@@ -35,9 +35,5 @@ pub fn fold(alloc: Global, graph: &Graph) -> Result<Graph, Memory>
     // operator, and its operands but for those that are known, which become their constants
     ensures divides { IfOk result (KeepsDivisions graph.now) }
 {
-    let _nodes = graph.nodes();
-    let states = LeastStates::of(alloc, graph)?;
-    let nodes = rewrite(alloc, graph, &states.blocks, &states.values)?;
-    let folded = graph.with_nodes(alloc, nodes)?;
-    Ok(folded)
+    rewritten::<Known>(alloc, graph)
 }

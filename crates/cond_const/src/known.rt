@@ -1,10 +1,11 @@
 // What is known of variables, and what operands, right sides and tests become by it.
-ghost use Rattle.std.specs.Prelude.{◌≡◌};
+ghost use Rattle.std.specs.Prelude.{◌≡◌, true};
 ghost use Rattle.mir_base.specs.declared.instructions.Operand.TheVariants.{Const};
-ghost use Rattle.cond_const.specs.Folding.{by_identity, decided_relation, decided_test, folded_binary, folded_rhs, known_rhs, relates_itself, resolved, resolved_test};
+ghost use Rattle.cond_const.specs.States.{joined_known};
+ghost use Rattle.cond_const.specs.Folding.{by_identity, decided_relation, decided_test, folded_binary, folded_rhs, known_rhs, may_go, relates_itself, resolved};
 
-use crate::facts::Facts;
 use crate::identities::{Identity, identity_left, identity_right, identity_same};
+use cond_flow::Facts;
 use mir_base::{Op, Operand, RelOp, Rhs, Test, eval, eval1, relates};
 
 /// What is known of a variable before a node.
@@ -16,9 +17,39 @@ pub enum Known {
     Varying,
 }
 
+/// What is known where two paths meet: equal constants stay, and everything else is varying.
+pub(crate) fn joined_known(x: Known, y: Known) -> Known
+    ensures { result ≡ joined_known x y }
+{
+    match x {
+        Known::Fixed(a) => match y {
+            Known::Fixed(b) => { if a == b { x } else { Known::Varying } }
+            Known::Varying => Known::Varying,
+        },
+        Known::Varying => Known::Varying,
+    }
+}
+
+/// Whether the same is known.
+pub(crate) fn are_same(x: Known, y: Known) -> bool
+    ensures same { result ≡ true → x ≡ y }
+    ensures differ { x ≡ y → result ≡ true }
+{
+    match x {
+        Known::Fixed(a) => match y {
+            Known::Fixed(b) => a == b,
+            Known::Varying => false,
+        },
+        Known::Varying => match y {
+            Known::Fixed(_) => false,
+            Known::Varying => true,
+        },
+    }
+}
+
 /// What is known of a right side: the constant that it becomes, if it becomes one.
-pub(crate) fn known_rhs(known: &Facts, rhs: Rhs) -> Known
-    ensures { result ≡ known_rhs known.now.items rhs }
+pub(crate) fn known_rhs(known: &Facts<Known>, rhs: Rhs) -> Known
+    ensures { result ≡ known_rhs known.now rhs }
 {
     match folded_rhs(known, rhs) {
         Rhs::Plain(Operand::Const(c)) => Known::Fixed(c),
@@ -29,8 +60,8 @@ pub(crate) fn known_rhs(known: &Facts, rhs: Rhs) -> Known
 }
 
 /// What a right side becomes: the analysis and the rewriting both ask here.
-pub(crate) fn folded_rhs(known: &Facts, rhs: Rhs) -> Rhs
-    ensures { result ≡ folded_rhs known.now.items rhs }
+pub(crate) fn folded_rhs(known: &Facts<Known>, rhs: Rhs) -> Rhs
+    ensures { result ≡ folded_rhs known.now rhs }
 {
     match rhs {
         Rhs::Plain(a) => Rhs::Plain(resolved(known, a)),
@@ -87,32 +118,21 @@ fn by_identity(identity: Identity, variable: Operand, rhs: Rhs) -> Rhs
 }
 
 /// The operand, or the constant that its variable is known to have.
-pub(crate) fn resolved(known: &Facts, a: Operand) -> Operand
-    ensures { result ≡ resolved known.now.items a }
+pub(crate) fn resolved(known: &Facts<Known>, a: Operand) -> Operand
+    ensures { result ≡ resolved known.now a }
 {
     match a {
         Operand::Const(c) => Operand::Const(c),
-        Operand::Var(x) => match known.get(x) {
+        Operand::Var(x) => match known.get(x, Known::Varying) {
             Known::Fixed(c) => Operand::Const(c),
             Known::Varying => Operand::Var(x),
         },
     }
 }
 
-/// The test with its operands resolved.
-pub(crate) fn resolved_test(known: &Facts, test: Test) -> Test
-    ensures { result ≡ resolved_test known.now.items test }
-{
-    match test {
-        Test::Rel(op, a, b) => Test::Rel(op, resolved(known, a), resolved(known, b)),
-        Test::Holds(a) => Test::Holds(resolved(known, a)),
-        Test::Fails(a) => Test::Fails(resolved(known, a)),
-    }
-}
-
 /// Whether a test holds, where that is decided.
-pub(crate) fn decided_test(known: &Facts, test: Test) -> Option<bool>
-    ensures { result ≡ decided_test known.now.items test }
+fn decided_test(known: &Facts<Known>, test: Test) -> Option<bool>
+    ensures { result ≡ decided_test known.now test }
 {
     match test {
         Test::Rel(op, a, b) => decided_relation(op, resolved(known, a), resolved(known, b)),
@@ -124,6 +144,16 @@ pub(crate) fn decided_test(known: &Facts, test: Test) -> Option<bool>
             Operand::Var(_) => None,
             Operand::Const(c) => Some(c == 0),
         },
+    }
+}
+
+/// Whether a test may have this truth value.
+pub(crate) fn may_go(known: &Facts<Known>, test: Test, truth: bool) -> bool
+    ensures { result ≡ may_go test truth known.now }
+{
+    match decided_test(known, test) {
+        None => true,
+        Some(holds) => if truth { holds } else { !holds },
     }
 }
 

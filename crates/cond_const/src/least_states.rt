@@ -1,20 +1,12 @@
 // The least states of a graph, and what is known before a node.
 ghost use Rattle.std.specs.Prelude.{◌≡◌, ◌<◌, length, IfOk};
 ghost use Rattle.std.specs.Option.{option_map};
-ghost use Rattle.flow_graph.specs.Blocks.{AreBlocksOf, IsChain};
 ghost use Rattle.cond_const.specs.Holding.{HoldsBefore, StatesHold};
-ghost use Rattle.cond_const.specs.KnownBefore.{AreKnownBefore, AreStatesOf, IsKnownBefore, IsOnlyKnownBefore, PassesTo, state_of_known};
-ghost use Rattle.cond_const.specs.Rewriting.{IsAmong};
-ghost use Rattle.cond_const.specs.States.{state_where};
+ghost use Rattle.cond_const.specs.KnownBefore.{AreKnownBefore, AreStatesOf, IsKnownBefore, IsOnlyKnownBefore};
 
-use crate::facts::Facts;
 use crate::known::Known;
-use crate::solving::least;
-use crate::states::BlockState;
-use crate::telling::{tell_blocks, told};
-use crate::transfer::step;
-use fix_solve::Work;
-use flow_graph::{Blocks, Edges, Graph};
+use cond_flow::LeastStates as StatesBy;
+use flow_graph::Graph;
 use mir_base::Memory;
 use std::alloc::Global;
 use std::marker::Model;
@@ -23,8 +15,7 @@ use std::marker::Model;
 /// first nodes of the blocks. Contracts see the blocks, and the state of each.
 #[derive(Drop)]
 pub struct LeastStates {
-    pub(crate) blocks: Blocks,
-    pub(crate) values: Work<BlockState>,
+    states: StatesBy<Known>,
 }
 
 impl Model for LeastStates {
@@ -32,7 +23,7 @@ impl Model for LeastStates {
 
     ghost Value = { StatesShape };
 
-    ghost view = { λ s. record { blocks = s.blocks; values = s.values } };
+    ghost view = { λ s. s.states };
 }
 
 impl LeastStates {
@@ -40,9 +31,8 @@ impl LeastStates {
     pub fn of(alloc: Global, graph: &Graph) -> Result<LeastStates, Memory>
         ensures { IfOk result (AreStatesOf graph.now) }
     {
-        let blocks = blocks_of(alloc, graph)?;
-        let values = least(alloc, graph, &blocks)?;
-        Ok(LeastStates { blocks, values })
+        let states = StatesBy::of(alloc, graph)?;
+        Ok(LeastStates { states })
     }
 
     /// The state of a node by the least states: what is known of each variable before it, by the numbers of the
@@ -67,13 +57,7 @@ impl LeastStates {
         ensures holds { IfOk result (λ known.
             HoldsBefore graph.now node (option_map (λ list. list.items) known)) }
     {
-        let _nodes = graph.nodes();
-        let block = self.blocks.block_of(node);
-        let list = self.blocks.nodes(block);
-        let state = self.values.value(block);
-        let mut known = state.known(alloc)?;
-        let reaches = pass_to(graph, list, node, state.is_reached(), &mut known);
-        let told = told(alloc, reaches, &known)?;
+        let told = self.states.before(alloc, graph, node)?;
         Ok(told)
     }
 
@@ -88,7 +72,7 @@ impl LeastStates {
         ensures long { IfOk result (λ all. length all.items ≡ length graph.now.nodes) }
         ensures known { IfOk result (λ all. AreKnownBefore graph.now all.items) }
     {
-        let all = tell_blocks(alloc, graph, &self.blocks, &self.values)?;
+        let all = self.states.before_each(alloc, graph)?;
         Ok(all)
     }
 }
@@ -99,32 +83,5 @@ impl LeastStates {
 pub fn states_hold(graph: &Graph)
     ensures { StatesHold graph.now }
 {
-    let _ = graph;
-}
-
-/// The blocks of the graph.
-fn blocks_of(alloc: Global, graph: &Graph) -> Result<Blocks, Memory>
-    ensures { IfOk result (AreBlocksOf graph.now.nodes) }
-{
-    let edges = Edges::of(alloc, graph)?;
-    let blocks = Blocks::of(alloc, graph, &edges)?;
-    Ok(blocks)
-}
-
-/// Leaves what passes to this node from the first node of its block, and answers whether anything does.
-fn pass_to(graph: &Graph, list: &[usize], node: usize, reached: bool, known: &mut Facts) -> bool
-    requires chain { IsChain graph.now.nodes list.now }
-    requires stands { IsAmong list.now (length list.now) node }
-    ensures passes { PassesTo graph.now list.now node (state_where reached known.old.items)
-        (state_where result known.new.items) }
-    ensures long { length known.new.items ≡ length known.old.items }
-{
-    let mut reaches = reached;
-    let mut place = 0;
-    while list[place] != node {
-        let here = graph.node(list[place]);
-        reaches = step(reaches, known, here, 0, graph.shared(), graph.received());
-        place += 1;
-    }
-    reaches
+    cond_flow::states_hold::<Known>(graph);
 }

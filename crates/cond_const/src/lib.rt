@@ -10,17 +10,11 @@
 //! (`before`, and `before_each` for all of them). What they say is true of each run of the graph (`states_hold`).
 #![tactic(auto)]
 
-mod facts;
-mod flow;
 mod folding;
 mod identities;
+mod knowing;
 mod known;
 mod least_states;
-mod rewriting;
-mod solving;
-mod states;
-mod telling;
-mod transfer;
 
 pub use folding::fold;
 pub use identities::identities_hold;

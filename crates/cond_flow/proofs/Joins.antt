@@ -1,5 +1,5 @@
--- A join that was made place by place, and lists that were set place by place.
-use Rattle.std.proofs.Common.{◌≡◌, ◌≢◌, inl, inr, ◌↔◌, ℕ, zero, suc, ◌+◌, ◌<◌, ◌≤◌, Bool, true, false, ◌||◌, slice_set, length-set, List, [], ◌∷◌, ◌++◌, drop, length, replicate, get_or, refl, sym, ap, arith, ◌∙◌}
+-- A join that was made place by place.
+use Rattle.std.proofs.Common.{◌≡◌, ◌≢◌, inl, inr, ◌↔◌, ℕ, zero, suc, ◌+◌, ◌<◌, ◌≤◌, Bool, true, false, ◌||◌, slice_set, length-set, List, [], ◌∷◌, length, get_or, refl, sym, ap, arith, ◌∙◌}
 use Rattle.std.proofs.lemmas.List.{ext_get_or, get_or-set_same, get_or-set_other, get_or_default}
 use Rattle.std.proofs.lemmas.Bool.{cases_Bool, cases_eq, or_parts}
 use Rattle.cond_flow.specs.States.{joined_each}
@@ -90,16 +90,3 @@ module _ {K : Type 0} (join : K → K → K) (top : K) where
       | inr off ↦ off
     ],
   )
-
--- ---- lists that are set from the front
-
--- one place more
-pub set_front : {K : Type 0} (l : List K) (x : ℕ) (k : K) → x < length l → slice_set (replicate x k ++ drop x l) x k ≡ replicate (suc x) k ++ drop (suc x) l
-set_front [] x k h = absurd (omega (arith, h))
-set_front (a ∷ l) zero k h = refl
-set_front (a ∷ l) (suc x) k h = ap (λ s. k ∷ s) (set_front l x k (let h' : suc x < suc (length l) = h in omega arith))
-
--- all places
-pub all_front : {K : Type 0} (l : List K) (k : K) → replicate (length l) k ++ drop (length l) l ≡ replicate (length l) k
-all_front [] k = refl
-all_front (a ∷ l) k = ap (λ s. k ∷ s) (all_front l k)

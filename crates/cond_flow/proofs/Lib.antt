@@ -1,6 +1,7 @@
 pub mod Nodewise
 pub mod Targets
 pub mod Steps
+pub mod FactLaws
 pub mod Joins
 pub mod JoinCases
 pub mod Rewrites

@@ -25,7 +25,10 @@ use Rattle.cond_flow.specs.Passing.{after_call, all_set, first_known, known_afte
 use Rattle.cond_flow.specs.Becoming.{becomes_at, decided_node, guarded_node, node_becomes, nodes_become, test_becomes}
 use Rattle.cond_flow.specs.BecomingLaws.{become_get}
 use Rattle.cond_flow.specs.Solutions.{AreStates}
-use Rattle.cond_flow.proofs.Sound.{HoldsAt, fits_start, held_first, held_set, held_shared, held_start, holds_up, operands_same, test_same}
+use Rattle.flow_graph.specs.RunFrames.{IsRunFrame}
+use Rattle.flow_graph.specs.RunFrameLaws.{run_frame_related}
+use Rattle.cond_flow.specs.Holding.{HoldsAt}
+use Rattle.cond_flow.proofs.Sound.{fits_start, held_first, held_set, held_shared, held_start, holds_up, operands_same, test_same}
 
 -- both stand at one place, and what is known there holds
 record Together {K : Type 0} (holds : K → ℤ → Type 0) (rules : Rules K) (states : ℕ → NodeState K) (f g : Frame) : Type 0 where
@@ -180,6 +183,10 @@ module _ {K : Type 0} {below : K → K → Type 0} {holds : K → ℤ → Type 0
     };
     steps = steps;
   }
+
+  -- what is known before a node holds in each run that comes there
+  pub states_hold : (f : Frame) → IsRunFrame (graph_machine shared received nodes) f → HoldsAt holds rules (states f.place) f.values
+  states_hold f of_run = (run_frame_related (graph_machine shared received nodes) (graph_machine shared received after) Tied in_lockstep f of_run).1.known
 
   pub rewritten_same : UnitSame (graph_machine shared received nodes) (graph_machine shared received after)
   rewritten_same = lockstep_same (graph_machine shared received nodes) (graph_machine shared received after) Tied in_lockstep

@@ -21,11 +21,7 @@ use Rattle.cond_flow.specs.States.{NodeState, Unreached, Knows, BelowState}
 use Rattle.cond_flow.specs.Passing.{all_set, first_known, start_known}
 use Rattle.cond_flow.specs.Becoming.{test_becomes}
 use Rattle.cond_flow.specs.PassingLaws.{below_at}
-
--- these values agree with the state of a node: none do where no run comes to the node
-abbrev pub HoldsAt : {K : Type 0} → (K → ℤ → Type 0) → Rules K → NodeState K → Values → Type 0
-HoldsAt holds rules (Unreached size) values = ⊥
-HoldsAt holds rules (Knows known) values = AreHeld holds rules known values
+use Rattle.cond_flow.specs.Holding.{HoldsAt}
 
 -- all values 0 are signed 64-bit numbers
 zeros_fit : ValuesFit all_zero

@@ -1,6 +1,7 @@
 -- The steps of the loops over the nodes of a block.
-use Rattle.std.proofs.Common.{◌≡◌, ℕ, suc, ◌<◌, List, length, take, slice_get, slice_index_or, Some, sym, ap, ◌∙◌, subst}
-use Rattle.std.proofs.lemmas.Option.{slice_get-get_or, get_or_from_slice_get}
+use Rattle.std.proofs.Common.{◌≡◌, ◌≢◌, ℕ, suc, ◌+◌, ◌<◌, ◌≤◌, inl, inr, List, length, take, slice_get, slice_index_or, Some, sym, ap, ◌∙◌, subst, arith}
+use Rattle.std.proofs.lemmas.Bool.{cases_eq}
+use Rattle.std.proofs.lemmas.Option.{slice_get-get_or, slice_get_within, get_or_from_slice_get}
 use Rattle.flow_graph.specs.declared.nodes.Node.{Node}
 use Rattle.flow_graph.specs.Blocks.{IsChain}
 use Rattle.flow_graph.specs.BlockLaws.{chain_within}
@@ -27,3 +28,14 @@ passed_on along nodes list i j node s t u lt next here so_far step =
     let more : through_nodes along nodes (take j list) s ≡ along_at along (slice_get nodes (slice_index_or list i 0)) 0 (through_nodes along nodes (take i list) s) =
     ap (λ k. through_nodes along nodes (take k list) s) next ∙ ap (λ l. through_nodes along nodes l s) (take_next list i (slice_index_or list i 0) at) ∙ through_more along nodes (take i list) (slice_index_or list i 0) s in
     step ∙ ap (along node 0) so_far ∙ sym (more ∙ ap (λ o. along_at along o 0 (through_nodes along nodes (take i list) s)) here)
+
+-- a place that is not after one where the node stands is one of the list
+pub place_low : (list : List ℕ) (place i node : ℕ) → place ≤ i → slice_get list i ≡ Some node → place < length list
+place_low list place i node le is = omega (arith, le, slice_get_within list i node is)
+
+-- and where another node stands there, the next one is not after either
+pub place_next : (list : List ℕ) (place i node : ℕ) → place ≤ i → slice_get list i ≡ Some node → slice_index_or list place 0 ≢ node → place + 1 ≤ i
+place_next list place i node le is apart = elim (cases_eq i place) as (λ _. place + 1 ≤ i) [
+  | inl here ↦ absurd (apart (get_or_from_slice_get list place node 0 (subst (λ k. slice_get list k ≡ Some node) here is)))
+  | inr later ↦ omega (arith, le, later)
+]

@@ -144,19 +144,19 @@ exactly_kept order graph made states within least is_made n lt = (
 
 module _ {K : Type 0} {below : K → K → Type 0} {holds : K → ℤ → Type 0} {rules : Rules K} (laws : RewritingRules holds rules) (graph made : GraphShape) (is : IsRewritten below rules graph made) where
   abbrev marks : List Bool
-  marks = is.is.nodes_are.marks
+  marks = is.made.nodes_are.marks
 
   after_long : length (nodes_become rules is.states graph.nodes) ≡ length graph.nodes
   after_long = length_become rules is.states graph.nodes
 
   -- a node whose state is reached is marked, and stands at the number of those marked below it
   is_marked : (n : ℕ) → n < length graph.nodes → is_reached (is.states n) ≡ true → slice_get marks n ≡ Some true
-  is_marked n lt on = (is.is.nodes_are.are_marks.exact n (subst (λ k. n < k) (sym after_long) lt)).1 ((is.kept n lt).1 on)
+  is_marked n lt on = (is.made.nodes_are.are_marks.exact n (subst (λ k. n < k) (sym after_long) lt)).1 ((is.kept n lt).1 on)
 
   stands : (n : ℕ) (node : Node) → slice_get graph.nodes n ≡ Some node → is_reached (is.states n) ≡ true → slice_get made.nodes (marked_below marks n) ≡ Some (redirected (marked_below marks) (becomes_at rules (is.states n) node))
   stands n node here on =
-      ap (λ l. slice_get l (marked_below marks n)) is.is.nodes_are.are ∙ slice_get-map (redirected (marked_below marks)) (marked marks (nodes_become rules is.states graph.nodes)) (marked_below marks n)
-      ∙ ap (option_map (redirected (marked_below marks))) (at_rank marks (nodes_become rules is.states graph.nodes) n (is_marked n (slice_get_within graph.nodes n node here) on) is.is.nodes_are.are_marks.long
+      ap (λ l. slice_get l (marked_below marks n)) is.made.nodes_are.are ∙ slice_get-map (redirected (marked_below marks)) (marked marks (nodes_become rules is.states graph.nodes)) (marked_below marks n)
+      ∙ ap (option_map (redirected (marked_below marks))) (at_rank marks (nodes_become rules is.states graph.nodes) n (is_marked n (slice_get_within graph.nodes n node here) on) is.made.nodes_are.are_marks.long
       ∙ become_get rules is.states graph.nodes n ∙ ap (option_map (becomes_at rules (is.states n))) here)
 
   assigned : (n x : ℕ) (op : Op) (left right : Operand) (known : List K) (d : DividesOf graph.nodes n x op left right) → is.states n ≡ Knows known → slice_get made.nodes (marked_below marks n) ≡ Some (Assign x (rules.rhs known (Binary op left right)) (marked_below marks d.next))

@@ -1,5 +1,5 @@
 -- What the nodes become, place by place, and that one graph is made. For proofs only.
-use Rattle.std.proofs.Common.{◌≡◌, ℕ, zero, suc, ◌+◌, ◌<◌, List, [], ◌∷◌, length, slice_get, Some, option_map, refl, sym, ap, ◌∙◌, subst, arith, add-zero, zero-add}
+use Rattle.std.proofs.Common.{◌≡◌, ℕ, zero, suc, ◌+◌, ◌<◌, List, [], ◌∷◌, length, slice_get, Option, Some, None, option_map, refl, sym, ap, ◌∙◌, subst, arith, add-zero, zero-add}
 use Rattle.flow_graph.specs.declared.nodes.Node.{Node}
 use Rattle.flow_graph.specs.Graphs.{GraphShape}
 use Rattle.flow_graph.specs.Retained.{IsMade}
@@ -11,6 +11,7 @@ use Rattle.cond_flow.specs.StateLaws.{below_antisym}
 use Rattle.cond_flow.specs.Becoming.{becomes_at, become_from, nodes_become}
 use Rattle.cond_flow.specs.Solutions.{HasLeastStates}
 use Rattle.cond_flow.specs.Rewritten.{IsRewritten}
+use Rattle.cond_flow.specs.KnownBefore.{IsKnownBefore, state_of_known}
 
 module _ {K : Type 0} (rules : Rules K) where
   -- the node at a place, counted from a number on
@@ -51,6 +52,13 @@ module _ {K : Type 0} (rules : Rules K) where
       (same (suc n) (omega (arith, lt)))) in
       cons_same (ap (λ s. becomes_at rules s node) here) rest
 
+-- what is told gives one state, and one state tells one thing
+told_is_one : {K : Type 0} (size : ℕ) (a b : Option (List K)) → state_of_known size a ≡ state_of_known size b → a ≡ b
+told_is_one size None None e = refl
+told_is_one size None (Some ks) e = cc
+told_is_one size (Some ks) None e = cc
+told_is_one size (Some ks) (Some ls) e = let same : ks ≡ ls = cc in ap Some same
+
 module _ {K : Type 0} {below : K → K → Type 0} {rules : Rules K} (order : OrderRules below rules) where
   -- the least states are determined at the nodes
   states_are_one : (graph : GraphShape) (states others : ℕ → NodeState K) → HasLeastStates below rules graph states
@@ -67,4 +75,11 @@ module _ {K : Type 0} {below : K → K → Type 0} {rules : Rules K} (order : Or
       (λ n lt. subst (λ j. p.states j ≡ q.states j) (sym (zero-add n))
       (states_are_one graph p.states q.states p.least q.least n lt)) in
       made_is_one graph.name graph.shared graph.vars graph.received (nodes_become rules q.states graph.nodes) a b
-      (subst (λ l. IsMade graph.name graph.shared graph.vars graph.received l a) same p.is) q.is
+      (subst (λ l. IsMade graph.name graph.shared graph.vars graph.received l a) same p.made) q.made
+
+  -- so what is known before a node is determined
+  pub known_is_one : (graph : GraphShape) (node : ℕ) (a b : Option (List K)) → node < length graph.nodes
+      → IsKnownBefore below rules graph node a → IsKnownBefore below rules graph node b → a ≡ b
+  known_is_one graph node a b lt p q =
+      told_is_one (length graph.vars) a b
+      (sym p.here ∙ states_are_one graph p.states q.states p.least q.least node lt ∙ q.here)

@@ -66,7 +66,8 @@ pub record AreTargetsBelow (nodes : List Node) (lists : List (List ℕ)) (below 
 abbrev pub AreTargets : List Node → List (List ℕ) → List ℕ → Type 0
 AreTargets nodes lists targets = AreTargetsBelow nodes lists (length lists) targets
 
--- these are the blocks, the block of Start, and the blocks to which the edges lead
+-- these are the blocks, the number of the block of Start, and for each slot of the last node of each block the number
+-- of the block to which its edge leads
 pub record IsStateNet (nodes : List Node) (lists : List (List ℕ)) (entry : ℕ) (targets : List ℕ) : Type 0 where
   pub blocks : IsBlocks nodes lists
   pub entry_is : StandsIn lists entry 0

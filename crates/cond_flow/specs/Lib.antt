@@ -1,3 +1,4 @@
+pub mod FactLists
 pub mod States
 pub mod Rules
 pub mod Passing
@@ -7,6 +8,9 @@ pub mod Flows
 pub mod Solutions
 pub mod Rewriting
 pub mod Rewritten
+pub mod KnownBefore
+pub mod Telling
+pub mod Holding
 pub mod StateLaws
 pub mod PassingLaws
 pub mod FlowLaws

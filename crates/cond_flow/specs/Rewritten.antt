@@ -16,10 +16,10 @@ use Rattle.cond_flow.specs.Solutions.{HasLeastStates}
 
 -- the graph is made of what the nodes of the first become by its least states, and of these exactly those are kept
 -- whose state is reached
-pub record IsRewritten {K : Type 0} (below : K → K → Type 0) (rules : Rules K) (graph made : GraphShape) : Type 0 where
+pub record IsRewritten {K : Type 0} (below : K → K → Type 0) (rules : Rules K) (graph result : GraphShape) : Type 0 where
   pub states : ℕ → NodeState K
   pub least : HasLeastStates below rules graph states
-  pub is : IsMade graph.name graph.shared graph.vars graph.received (nodes_become rules states graph.nodes) made
+  pub made : IsMade graph.name graph.shared graph.vars graph.received (nodes_become rules states graph.nodes) result
   pub kept : (n : ℕ) → n < length graph.nodes → IsReachedNode (nodes_become rules states graph.nodes) n
       ↔ (is_reached (states n) ≡ true)
 

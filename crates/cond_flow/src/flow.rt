@@ -10,10 +10,9 @@ ghost use Rattle.cond_flow.specs.FlowLaws.{flow_laws};
 ghost use Rattle.cond_flow.specs.Passing.{passed_along};
 ghost use Rattle.cond_flow.specs.States.{BelowState, joined_each, size_of, state_where};
 
-use crate::Knowledge;
-use crate::lists::{join_each, refill};
 use crate::states::BlockState;
 use crate::transfer::{may_pass, step};
+use crate::{Facts, Knowledge};
 use fix_solve::{AllNews, Flow, Steps};
 use flow_graph::{Blocks, Graph};
 use mir_base::Memory;
@@ -30,7 +29,7 @@ pub(crate) struct StateFlow<'a, K: Knowledge, L: Ledger> {
     pub(crate) blocks: &'a Blocks,
     pub(crate) entry: usize,
     pub(crate) targets: &'a [usize],
-    pub(crate) zeros: &'a [K],
+    pub(crate) zeros: &'a Facts<K>,
     pub(crate) ledger: PhantomData<L>,
 }
 
@@ -79,7 +78,7 @@ impl<'a, K: Knowledge, L: Ledger> Flow for StateFlow<'a, K, L> {
     ) -> bool {
         steps.tick();
         if from.reached {
-            self.push_known(number, from.known.as_slice(), into)
+            self.push_known(number, &from.known, into)
         } else {
             false
         }
@@ -88,8 +87,8 @@ impl<'a, K: Knowledge, L: Ledger> Flow for StateFlow<'a, K, L> {
     fn push_self(&self, number: usize, value: &mut BlockState<K>, steps: &mut Steps<L>) -> bool {
         steps.tick();
         if value.reached {
-            let passes = self.pass(number, value.known.as_slice(), &mut value.room);
-            join_where(passes, &mut value.known, value.room.as_slice())
+            let passes = self.pass(number, &value.known, &mut value.room);
+            join_where(passes, &mut value.known, &value.room)
         } else {
             false
         }
@@ -103,7 +102,7 @@ impl<'a, K: Knowledge, L: Ledger> Flow for StateFlow<'a, K, L> {
 impl<'a, K: Knowledge, L: Ledger> StateFlow<'a, K, L> {
     /// Joins what passes along an edge of a block that is reached, before which this is known, and answers whether the
     /// state has changed. Where a block is reached first, its own list is what passes.
-    fn push_known(&self, number: usize, known: &[K], into: &mut BlockState<K>) -> bool
+    fn push_known(&self, number: usize, known: &Facts<K>, into: &mut BlockState<K>) -> bool
         requires valid { IsStateFlow K.rules self.now }
         requires in_range { number < length self.now.targets.now }
         requires long { length known.now ≡ size_of into.old }
@@ -113,7 +112,7 @@ impl<'a, K: Knowledge, L: Ledger> StateFlow<'a, K, L> {
     {
         if into.reached {
             let passes = self.pass(number, known, &mut into.room);
-            join_where(passes, &mut into.known, into.room.as_slice())
+            join_where(passes, &mut into.known, &into.room)
         } else {
             let passes = self.pass(number, known, &mut into.known);
             into.reached = passes;
@@ -121,18 +120,18 @@ impl<'a, K: Knowledge, L: Ledger> StateFlow<'a, K, L> {
         }
     }
 
-    /// Leaves in the room what passes along an edge of a block before which this is known, and answers whether anything
+    /// Writes to the room what passes along an edge of a block before which this is known, and answers whether anything
     /// does.
-    fn pass(&self, number: usize, known: &[K], room: &mut Vec<K>) -> bool
+    fn pass(&self, number: usize, known: &Facts<K>, room: &mut Facts<K>) -> bool
         requires valid { IsStateFlow K.rules self.now }
         requires in_range { number < length self.now.targets.now }
-        requires fits { length known.now ≡ length room.old.items }
-        ensures { state_where result room.new.items
+        requires fits { length known.now ≡ length room.old }
+        ensures { state_where result room.new
             ≡ (net_of K.rules self.now).transfer number (state_where true known.now) }
     {
         let list = self.blocks.nodes(number / 2);
-        refill(room, known);
         if may_pass::<K>(self.graph.node(last(list)), number % 2) {
+            room.refill(known);
             leave(self.graph, list, number % 2, true, room)
         } else {
             false
@@ -140,34 +139,35 @@ impl<'a, K: Knowledge, L: Ledger> StateFlow<'a, K, L> {
     }
 }
 
-/// Leaves what is known where something passes to a block that is reached, and answers whether that changed.
-fn join_where<K: Knowledge>(passes: bool, known: &mut Vec<K>, passed: &[K]) -> bool
-    requires { length passed.now ≡ length known.old.items }
-    ensures joined { known.new.items
-        ≡ (if passes then joined_each K.rules.joined known.old.items passed.now
-        else known.old.items) }
-    ensures unchanged { (result ≡ false) ↔ (known.new.items ≡ known.old.items) }
+/// Turns what is known into what is known where something passes to a block that is reached, and answers whether that
+/// changed.
+fn join_where<K: Knowledge>(passes: bool, known: &mut Facts<K>, passed: &Facts<K>) -> bool
+    requires { length passed.now ≡ length known.old }
+    ensures joined { known.new
+        ≡ (if passes then joined_each K.rules.joined known.old passed.now
+        else known.old) }
+    ensures unchanged { (result ≡ false) ↔ (known.new ≡ known.old) }
 {
     if passes {
-        join_each(known, passed)
+        known.join_from(passed)
     } else {
         false
     }
 }
 
-/// Leaves what passes through a block and along the edge at this slot of its last node, and answers whether anything
-/// does.
+/// Turns what is known before a block into what passes through it and along the edge at this slot of its last node, and
+/// answers whether anything does.
 fn leave<K: Knowledge>(
     graph: &Graph,
     list: &[usize],
     slot: usize,
     reached: bool,
-    known: &mut Vec<K>,
+    known: &mut Facts<K>,
 ) -> bool
     requires { IsChain graph.now.nodes list.now }
-    ensures { state_where result known.new.items
+    ensures { state_where result known.new
         ≡ out_of (passed_along K.rules graph.now.shared graph.now.received) graph.now.nodes
-        list.now slot (state_where reached known.old.items) }
+        list.now slot (state_where reached known.old) }
 {
     let last = last(list);
     let reaches = pass_inner(graph, list, reached, known);
@@ -181,18 +181,19 @@ fn leave<K: Knowledge>(
     )
 }
 
-/// Leaves what passes from the first node of a block to the last, and answers whether anything does.
+/// Turns what is known before the first node of a block into what passes to the last, and answers whether anything
+/// does.
 fn pass_inner<K: Knowledge>(
     graph: &Graph,
     list: &[usize],
     reached: bool,
-    known: &mut Vec<K>,
+    known: &mut Facts<K>,
 ) -> bool
     requires chain { IsChain graph.now.nodes list.now }
     requires some { 0 < length list.now }
-    ensures { state_where result known.new.items
+    ensures { state_where result known.new
         ≡ through_nodes (passed_along K.rules graph.now.shared graph.now.received) graph.now.nodes
-        (take (length list.now - 1) list.now) (state_where reached known.old.items) }
+        (take (length list.now - 1) list.now) (state_where reached known.old) }
 {
     let mut reaches = reached;
     for i in 1..list.len() {

@@ -2,11 +2,12 @@
 ghost use Rattle.std.specs.Prelude.{◌≡◌, ℤ, true};
 ghost use Rattle.cond_flow.specs.Rules.{LawfulRules, Rules};
 
+use crate::{Coded, Facts};
 use mir_base::{Operand, Rhs, Test};
 
 /// What is known of the value of one variable, with the rules by which it is found out and used. Lists have what is
 /// known of each variable, by the numbers of the variables. None of the functions allocates.
-pub trait Knowledge: Copy + Drop {
+pub trait Knowledge: Coded {
     ghost below: { Self → Self → Type 0 };
 
     ghost holds: { Self → ℤ → Type 0 };
@@ -31,23 +32,23 @@ pub trait Knowledge: Copy + Drop {
         ensures differ { self ≡ other → result ≡ true };
 
     /// What is known of a right side.
-    fn of_rhs(known: &[Self], rhs: Rhs) -> Self
+    fn of_rhs(known: &Facts<Self>, rhs: Rhs) -> Self
         ensures { result ≡ rules.of_rhs known.now rhs };
 
     /// Whether a test may have this truth value.
-    fn goes(known: &[Self], test: Test, truth: bool) -> bool
+    fn goes(known: &Facts<Self>, test: Test, truth: bool) -> bool
         ensures { result ≡ rules.goes test truth known.now };
 
-    /// Leaves what is known where a test has this truth value.
-    fn narrow(known: &mut [Self], test: Test, truth: bool)
+    /// Narrows what is known to where a test has this truth value.
+    fn narrow(known: &mut Facts<Self>, test: Test, truth: bool)
         ensures { known.new ≡ rules.along test truth known.old };
 
     /// What an operand becomes.
-    fn operand(known: &[Self], a: Operand) -> Operand
+    fn operand(known: &Facts<Self>, a: Operand) -> Operand
         ensures { result ≡ rules.operand known.now a };
 
-    /// What a right side becomes.
-    fn rhs(known: &[Self], rhs: Rhs) -> Rhs
+    /// The right side with what is known in the place of its operands, or what it is known to be.
+    fn rhs(known: &Facts<Self>, rhs: Rhs) -> Rhs
         ensures { result ≡ rules.rhs known.now rhs };
 
     ghost laws: { LawfulRules below holds rules };

@@ -5,16 +5,20 @@
 //!
 //! The theorem that this crate carries is the contract of `rewritten`: by lawful rules the answer is the exact graph,
 //! made from the least states of the nodes, it does the same as the graph that goes in, and it evaluates no more
-//! operators.
+//! operators. `LeastStates::of` answers what it finds out first, and `before` what is known before a node.
 #![tactic(auto)]
 
+mod facts;
 mod flow;
 mod knowledge;
-mod lists;
+mod least_states;
 mod rewriting;
 mod solving;
 mod states;
+mod telling;
 mod transfer;
 
+pub use facts::{Coded, Facts};
 pub use knowledge::Knowledge;
+pub use least_states::{LeastStates, states_hold};
 pub use rewriting::rewritten;

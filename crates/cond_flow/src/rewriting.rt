@@ -8,11 +8,10 @@ ghost use Rattle.cond_flow.specs.Rewriting.{HaveBecome, RewritesIn};
 ghost use Rattle.cond_flow.specs.Rewritten.{IsOnlyRewritten, IsRewritten, KeepsDivisions};
 ghost use Rattle.cond_flow.specs.States.{state_where};
 
-use crate::Knowledge;
-use crate::lists::{refill, repeated};
 use crate::solving::{blocks_of, least};
 use crate::states::BlockState;
 use crate::transfer::step;
+use crate::{Facts, Knowledge};
 use fix_solve::Work;
 use flow_graph::{Blocks, Graph, Node};
 use mir_base::{Args, Memory, Operand, Test};
@@ -72,7 +71,7 @@ fn rewrite<K: Knowledge>(
 {
     let nodes = graph.nodes();
     let mut made = skips(alloc, nodes.len())?;
-    let mut room = Vec::new(alloc);
+    let mut room = Facts::repeated(alloc, graph.vars().len(), K::zero())?;
     for block in 0..blocks.len() {
         rewrite_block(
             alloc,
@@ -103,7 +102,7 @@ fn rewrite_block<K: Knowledge>(
     graph: &Graph,
     list: &[usize],
     state: &BlockState<K>,
-    room: &mut Vec<K>,
+    room: &mut Facts<K>,
     made: &mut Vec<Node>,
 ) -> Result<(), Memory>
     requires chain { IsChain graph.now.nodes list.now }
@@ -111,19 +110,20 @@ fn rewrite_block<K: Knowledge>(
     ensures { OnOk result (RewritesIn K.rules graph.now list.now state.now (length list.now)
         made.old.items made.new.items) }
 {
-    put_in(alloc, state.known.as_slice(), room)?;
+    put_in(alloc, &state.known, room)?;
     rewrite_list(alloc, graph, list, state.reached, room, made)?;
     Ok(())
 }
 
 /// Leaves these in the room, and allocates where it has another length. It fails only with `Memory`.
-fn put_in<K: Knowledge>(alloc: Global, known: &[K], room: &mut Vec<K>) -> Result<(), Memory>
-    ensures { OnOk result (room.new.items ≡ known.now) }
+fn put_in<K: Knowledge>(alloc: Global, known: &Facts<K>, room: &mut Facts<K>) -> Result<(), Memory>
+    ensures { OnOk result (room.new ≡ known.now) }
 {
     if room.len() != known.len() {
-        *room = repeated(alloc, known.len(), K::zero())?;
+        *room = known.copied(alloc)?;
+    } else {
+        room.refill(known);
     }
-    refill(room, known);
     Ok(())
 }
 
@@ -134,19 +134,19 @@ fn rewrite_list<K: Knowledge>(
     graph: &Graph,
     list: &[usize],
     reached: bool,
-    known: &mut Vec<K>,
+    known: &mut Facts<K>,
     made: &mut Vec<Node>,
 ) -> Result<(), Memory>
     requires chain { IsChain graph.now.nodes list.now }
     requires long { length made.old.items ≡ length graph.now.nodes }
     ensures { OnOk result (RewritesIn K.rules graph.now list.now
-        (state_where reached known.old.items) (length list.now) made.old.items made.new.items) }
+        (state_where reached known.old) (length list.now) made.old.items made.new.items) }
 {
     let mut reaches = reached;
     for i in 0..list.len() {
         let n = list[i];
         let node = graph.node(n);
-        put(alloc, made, n, reaches, known.as_slice(), node)?;
+        put(alloc, made, n, reaches, known, node)?;
         reaches = step(reaches, known, node, 0, graph.shared(), graph.received());
     }
     Ok(())
@@ -158,12 +158,13 @@ fn put<K: Knowledge>(
     made: &mut Vec<Node>,
     n: usize,
     reached: bool,
-    known: &[K],
+    known: &Facts<K>,
     node: &Node,
 ) -> Result<(), Memory>
     requires { n < length made.old.items }
     ensures { OnOk result (made.new.items
-        ≡ slice_set made.old.items n (becomes_at K.rules (state_where reached known.now) node.now)) }
+        ≡ slice_set made.old.items n
+        (becomes_at K.rules (state_where reached known.now) node.now)) }
 {
     let becomes = becomes_at(alloc, reached, known, node)?;
     made[n] = becomes;
@@ -174,7 +175,7 @@ fn put<K: Knowledge>(
 fn becomes_at<K: Knowledge>(
     alloc: Global,
     reached: bool,
-    known: &[K],
+    known: &Facts<K>,
     node: &Node,
 ) -> Result<Node, Memory>
     ensures { IfOk result (λ becomes.
@@ -190,7 +191,7 @@ fn becomes_at<K: Knowledge>(
 }
 
 /// What a node becomes that is reached.
-fn node_becomes<K: Knowledge>(alloc: Global, known: &[K], node: &Node) -> Result<Node, Memory>
+fn node_becomes<K: Knowledge>(alloc: Global, known: &Facts<K>, node: &Node) -> Result<Node, Memory>
     ensures { IfOk result (λ becomes. becomes ≡ node_becomes K.rules known.now node.now) }
 {
     match node {
@@ -216,7 +217,7 @@ fn node_becomes<K: Knowledge>(alloc: Global, known: &[K], node: &Node) -> Result
 }
 
 /// What a test becomes that is reached.
-fn decided_node<K: Knowledge>(known: &[K], test: Test, taken: usize, other: usize) -> Node
+fn decided_node<K: Knowledge>(known: &Facts<K>, test: Test, taken: usize, other: usize) -> Node
     ensures { result ≡ decided_node (test_becomes K.rules known.now test) taken other
         (K.rules.goes test true known.now) (K.rules.goes test false known.now) }
 {
@@ -234,7 +235,7 @@ fn decided_node<K: Knowledge>(known: &[K], test: Test, taken: usize, other: usiz
 }
 
 /// The test with its operands replaced.
-fn test_becomes<K: Knowledge>(known: &[K], test: Test) -> Test
+fn test_becomes<K: Knowledge>(known: &Facts<K>, test: Test) -> Test
     ensures { result ≡ test_becomes K.rules known.now test }
 {
     match test {
@@ -247,7 +248,7 @@ fn test_becomes<K: Knowledge>(known: &[K], test: Test) -> Test
 /// What the operands become.
 fn all_operands<K: Knowledge>(
     alloc: Global,
-    known: &[K],
+    known: &Facts<K>,
     operands: &[Operand],
 ) -> Result<Vec<Operand>, Memory>
     ensures { IfOk result (λ all. all.items ≡ map (K.rules.operand known.now) operands.now) }

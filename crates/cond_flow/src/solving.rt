@@ -4,11 +4,10 @@ ghost use Rattle.flow_graph.specs.Blocks.{AreBlocksOf};
 ghost use Rattle.cond_flow.specs.Blockwise.{AreLeastOver, AreTargets, IsTargetOf};
 ghost use Rattle.cond_flow.specs.Passing.{first_known};
 
-use crate::Knowledge;
 use crate::flow::{StateFlow, last};
-use crate::lists::repeated;
 use crate::states::BlockState;
 use crate::transfer::forget_globals;
+use crate::{Facts, Knowledge};
 use fix_solve::{Steps, Work, solve};
 use flow_graph::{Blocks, Edges, Graph};
 use mir_base::Memory;
@@ -41,17 +40,17 @@ pub(crate) fn least<K: Knowledge>(
         graph,
         blocks,
         targets.as_slice(),
-        zeros.as_slice(),
+        &zeros,
         Blank::new(1),
     )?;
     Ok(work)
 }
 
 /// What is known before Start of so many variables: that each is 0 that is no global.
-fn zeros<K: Knowledge>(alloc: Global, shared: usize, count: usize) -> Result<Vec<K>, Memory>
-    ensures { IfOk result (λ zeros. zeros.items ≡ first_known K.rules shared count) }
+fn zeros<K: Knowledge>(alloc: Global, shared: usize, count: usize) -> Result<Facts<K>, Memory>
+    ensures { IfOk result (λ zeros. zeros ≡ first_known K.rules shared count) }
 {
-    let mut zeros = repeated(alloc, count, K::zero())?;
+    let mut zeros = Facts::repeated(alloc, count, K::zero())?;
     forget_globals(&mut zeros, shared);
     Ok(zeros)
 }
@@ -62,7 +61,7 @@ fn least_from<K: Knowledge, L: Ledger>(
     graph: &Graph,
     blocks: &Blocks,
     targets: &[usize],
-    zeros: &[K],
+    zeros: &Facts<K>,
     blank: Blank,
 ) -> Result<Work<BlockState<K>>, Memory>
     requires name { blank.name ≡ L.name }

@@ -4,8 +4,7 @@ ghost use Rattle.fix_solve.specs.Order.{IsLeastUpper};
 ghost use Rattle.cond_flow.specs.States.{BelowState, is_reached, size_of, state_rank, state_where};
 ghost use Rattle.cond_flow.specs.StateLaws.{state_laws};
 
-use crate::Knowledge;
-use crate::lists::{copied, join_each, refill};
+use crate::{Facts, Knowledge};
 use fix_solve::{AllNews, Lattice};
 use mir_base::Memory;
 use std::alloc::Global;
@@ -16,8 +15,8 @@ use std::marker::Model;
 #[derive(Drop)]
 pub(crate) struct BlockState<K: Knowledge> {
     pub(crate) reached: bool,
-    pub(crate) known: Vec<K>,
-    pub(crate) room: Vec<K>,
+    pub(crate) known: Facts<K>,
+    pub(crate) room: Facts<K>,
 }
 
 impl<K: Knowledge> Model for BlockState<K> {
@@ -26,18 +25,22 @@ impl<K: Knowledge> Model for BlockState<K> {
 
     ghost Value = { NodeState K };
 
-    ghost view = { λ s. state_where s.reached s.known.items };
+    ghost view = { λ s. state_where s.reached s.known };
 
-    ghost invariant = { λ s. length s.room.items ≡ length s.known.items };
+    ghost invariant = { λ s. length s.room ≡ length s.known };
 }
 
 impl<K: Knowledge> BlockState<K> {
     /// The state by whether the block is reached and what is then known. It fails only with `Memory`.
-    pub(crate) fn of(alloc: Global, reached: bool, known: &[K]) -> Result<BlockState<K>, Memory>
+    pub(crate) fn of(
+        alloc: Global,
+        reached: bool,
+        known: &Facts<K>,
+    ) -> Result<BlockState<K>, Memory>
         ensures { IfOk result (λ state. state ≡ state_where reached known.now) }
     {
-        let room = copied(alloc, known)?;
-        let known = copied(alloc, known)?;
+        let room = known.copied(alloc)?;
+        let known = known.copied(alloc)?;
         Ok(BlockState {
             reached,
             known,
@@ -45,18 +48,18 @@ impl<K: Knowledge> BlockState<K> {
         })
     }
 
-    /// Joins what is known where a path meets this one, or takes it where the block was not reached, and answers whether
-    /// the state changed.
-    pub(crate) fn meet(&mut self, known: &[K]) -> bool
+    /// Joins what is known where a path meets this one, or takes it where the block was not reached, and answers
+    /// whether the state changed.
+    pub(crate) fn meet(&mut self, known: &Facts<K>) -> bool
         requires { length known.now ≡ size_of self.old }
         ensures joined { IsLeastUpper (BelowState K.below) self.old (state_where true known.now)
             self.new }
         ensures unchanged { (result ≡ false) ↔ (self.new ≡ self.old) }
     {
         if self.reached {
-            join_each(&mut self.known, known)
+            self.known.join_from(known)
         } else {
-            refill(&mut self.known, known);
+            self.known.refill(known);
             self.reached = true;
             true
         }
@@ -74,7 +77,7 @@ impl<K: Knowledge> Lattice for BlockState<K> {
 
     fn join_from(&mut self, other: &Self) -> bool {
         if other.reached {
-            self.meet(other.known.as_slice())
+            self.meet(&other.known)
         } else {
             false
         }

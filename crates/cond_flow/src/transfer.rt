@@ -4,8 +4,7 @@ ghost use Rattle.mir_base.specs.Frames.{shared_vars};
 ghost use Rattle.cond_flow.specs.Passing.{after_call, all_set, known_after, passed_along, passes, start_known};
 ghost use Rattle.cond_flow.specs.States.{state_where};
 
-use crate::Knowledge;
-use crate::lists::put;
+use crate::{Facts, Knowledge};
 use flow_graph::Node;
 use mir_base::Test;
 
@@ -13,15 +12,15 @@ use mir_base::Test;
 /// whether the node is reached and `known` what is known before it.
 pub(crate) fn step<K: Knowledge>(
     reached: bool,
-    known: &mut Vec<K>,
+    known: &mut Facts<K>,
     node: &Node,
     slot: usize,
     shared: usize,
     received: &[usize],
 ) -> bool
-    ensures { state_where result known.new.items
+    ensures { state_where result known.new
         ≡ passed_along K.rules shared received.now node.now slot
-        (state_where reached known.old.items) }
+        (state_where reached known.old) }
 {
     if reached {
         pass(known, node, slot, shared, received)
@@ -32,16 +31,16 @@ pub(crate) fn step<K: Knowledge>(
 
 /// The same of a node that is reached.
 fn pass<K: Knowledge>(
-    known: &mut Vec<K>,
+    known: &mut Facts<K>,
     node: &Node,
     slot: usize,
     shared: usize,
     received: &[usize],
 ) -> bool
-    ensures { state_where result known.new.items
-        ≡ passed_along K.rules shared received.now node.now slot (state_where true known.old.items) }
+    ensures { state_where result known.new
+        ≡ passed_along K.rules shared received.now node.now slot (state_where true known.old) }
 {
-    if passes(node, slot, known.as_slice()) {
+    if passes(node, slot, known) {
         go_through(known, node, slot, shared, received);
         true
     } else {
@@ -61,7 +60,7 @@ pub(crate) fn may_pass<K: Knowledge>(node: &Node, slot: usize) -> bool
 }
 
 /// Whether a node passes its state along the edge at this slot.
-fn passes<K: Knowledge>(node: &Node, slot: usize, known: &[K]) -> bool
+fn passes<K: Knowledge>(node: &Node, slot: usize, known: &Facts<K>) -> bool
     ensures { result ≡ passes K.rules node.now slot known.now }
 {
     match node {
@@ -81,20 +80,20 @@ fn passes<K: Knowledge>(node: &Node, slot: usize, known: &[K]) -> bool
 
 /// Leaves what is known after a node along the edge at this slot.
 fn go_through<K: Knowledge>(
-    known: &mut Vec<K>,
+    known: &mut Facts<K>,
     node: &Node,
     slot: usize,
     shared: usize,
     received: &[usize],
 )
-    ensures { known.new.items
-        ≡ known_after K.rules shared received.now node.now slot known.old.items }
+    ensures { known.new
+        ≡ known_after K.rules shared received.now node.now slot known.old }
 {
     match node {
         Node::Start(_) => start(known, shared, received),
         Node::Assign(x, rhs, _) => {
-            let k = K::of_rhs(known.as_slice(), *rhs);
-            put(known, *x, k);
+            let k = K::of_rhs(known, *rhs);
+            known.set(*x, k);
         }
         Node::Call(into, _, _, _) => called(known, shared, *into),
         Node::Test(test, _, _) => narrow(known, *test, slot == 0),
@@ -103,48 +102,39 @@ fn go_through<K: Knowledge>(
 }
 
 /// Leaves what is known where a test has this truth value.
-fn narrow<K: Knowledge>(known: &mut Vec<K>, test: Test, holds: bool)
-    ensures { known.new.items ≡ K.rules.along test holds known.old.items }
+fn narrow<K: Knowledge>(known: &mut Facts<K>, test: Test, holds: bool)
+    ensures { known.new ≡ K.rules.along test holds known.old }
 {
-    K::narrow(known.as_mut_slice(), test, holds);
+    K::narrow(known, test, holds);
 }
 
 /// Leaves what is known after a call whose result goes to this variable, where there is one.
-fn called<K: Knowledge>(known: &mut Vec<K>, shared: usize, into: Option<usize>)
-    ensures { known.new.items ≡ after_call K.rules shared into known.old.items }
+fn called<K: Knowledge>(known: &mut Facts<K>, shared: usize, into: Option<usize>)
+    ensures { known.new ≡ after_call K.rules shared into known.old }
 {
     forget_globals(known, shared);
     if let Some(result) = into {
-        put(known, result, K::top());
+        known.set(result, K::top());
     }
 }
 
 /// Forgets what is known of the globals.
-pub(crate) fn forget_globals<K: Knowledge>(known: &mut Vec<K>, shared: usize)
-    ensures { known.new.items ≡ all_set K.rules.top (shared_vars shared) known.old.items }
+pub(crate) fn forget_globals<K: Knowledge>(known: &mut Facts<K>, shared: usize)
+    ensures { known.new ≡ all_set K.rules.top (shared_vars shared) known.old }
 {
     for x in 0..shared {
-        put(known, x, K::top());
+        known.set(x, K::top());
     }
 }
 
 /// Leaves what is known after Start.
-fn start<K: Knowledge>(known: &mut Vec<K>, shared: usize, received: &[usize])
-    ensures { known.new.items
-        ≡ start_known K.rules shared received.now (length known.old.items) }
+fn start<K: Knowledge>(known: &mut Facts<K>, shared: usize, received: &[usize])
+    ensures { known.new
+        ≡ start_known K.rules shared received.now (length known.old) }
 {
-    clear(known);
+    known.fill(K::zero());
     forget_globals(known, shared);
     for x in received {
-        put(known, *x, K::top());
-    }
-}
-
-/// Leaves that each variable is 0.
-fn clear<K: Knowledge>(known: &mut Vec<K>)
-    ensures { known.new.items ≡ replicate (length known.old.items) K.rules.zero }
-{
-    for x in 0..known.len() {
-        known[x] = K::zero();
+        known.set(*x, K::top());
     }
 }

@@ -1,4 +1,4 @@
-use Rattle.cond_const.proofs.Steps.{constants_are}
+use Rattle.cond_const.proofs.Constants.{constants_are}
 use Rattle.cond_const.proofs.known.folded_constants.Goals as goal
 
 pub returns-in-Ok : goal.returns-in-Ok

@@ -12,9 +12,9 @@ loop-i-preserved g c =
     let r = g.K.Knowledge.rules in
     let graph = c.args.graph.now in
     let low : 1 ≤ c.loop-i.i = c.loop-i.auto.i in
-    let after = state_where c.step-reaches.result c.step-reaches.new.known.items in
-    let before = state_where c.loop-i.reaches c.loop-i.known.items in
-    passed_on (passed_along r graph.shared graph.received) graph.nodes c.args.list.now (c.loop-i.i - 1) (c.loop-i.i + 1 - 1) c.node-node.result.now (state_where c.args.reached c.args.known.now.items) before
+    let after = state_where c.step-reaches.result c.step-reaches.new.known in
+    let before = state_where c.loop-i.reaches c.loop-i.known in
+    passed_on (passed_along r graph.shared graph.received) graph.nodes c.args.list.now (c.loop-i.i - 1) (c.loop-i.i + 1 - 1) c.node-node.result.now (state_where c.args.reached c.args.known.now) before
     after (omega (arith, c.loop-i-test.true)) (omega (arith, low)) c.node-node.ensures c.loop-i.invariant
     (subst (λ l. after ≡ passed_along r graph.shared l c.node-node.result.now 0 before) c.received.ensures
     (subst (λ n. after ≡ passed_along r n c.received.result.now c.node-node.result.now 0 before) c.shared.ensures.value c.step-reaches.ensures))

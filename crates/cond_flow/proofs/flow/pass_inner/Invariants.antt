@@ -6,6 +6,6 @@ use Rattle.cond_flow.proofs.flow.pass_inner.Given as goal
 
 abbrev pub invariant-loop-i : goal.invariant-loop-i
 invariant-loop-i g l =
-    state_where l.reaches l.known.items
+    state_where l.reaches l.known
     ≡ through_nodes (passed_along g.K.Knowledge.rules l.graph.shared l.graph.received) l.graph.nodes
-    (take (l.i - 1) l.list) (state_where l.reached l.fn.known.items)
+    (take (l.i - 1) l.list) (state_where l.reached l.fn.known)

@@ -1,8 +1,7 @@
-use Rattle.std.proofs.Common.{◌≡◌, ◌∙◌, ◌+◌, ◌<◌, length, slice_index_or, slice_set, ap, subst, arith}
+use Rattle.std.proofs.Common.{◌≡◌, ◌+◌, ◌<◌, length, subst, arith}
 use Rattle.std.proofs.lemmas.Option.{slice_get-get_or}
 use Rattle.cond_flow.specs.States.{state_where}
 use Rattle.cond_flow.specs.Passing.{passed_along}
-use Rattle.cond_flow.specs.Becoming.{becomes_at}
 use Rattle.cond_flow.specs.Rewriting.{RewritesIn}
 use Rattle.cond_flow.proofs.Rewrites.{rewrites_more}
 use Rattle.cond_flow.proofs.Steps.{chain_at, passed_on}
@@ -22,9 +21,9 @@ loop-i-preserved g c =
     let graph = c.args.graph.now in
     let along = passed_along r graph.shared graph.received in
     let list = c.args.list.now in
-    let first = state_where c.args.reached c.args.known.now.items in
-    let before = state_where c.loop-i.reaches c.loop-i.known.items in
-    let after = state_where c.step-reaches.result c.step-reaches.new.known.items in
+    let first = state_where c.args.reached c.args.known.now in
+    let before = state_where c.loop-i.reaches c.loop-i.known in
+    let after = state_where c.step-reaches.result c.step-reaches.new.known in
     let lt : c.loop-i.i < length list = omega (arith, c.loop-i-test.true) in
     let low = chain_at graph.nodes list c.loop-i.i c.requires.chain lt in
     record {
@@ -32,10 +31,10 @@ loop-i-preserved g c =
           (subst (λ l. after ≡ passed_along r graph.shared l c.node-node.result.now 0 before) c.received.ensures
           (subst (λ n. after ≡ passed_along r n c.received.result.now c.node-node.result.now 0 before) c.shared.ensures.value c.step-reaches.ensures));
       become = rewrites_more r along graph.nodes list first c.args.made.now.items c.loop-i.i _ c.node-node.result.now before c.loop-i.made.items c.put.new.made.items c.loop-i.invariant.become
-          (slice_get-get_or list c.loop-i.i 0 lt) c.node-node.ensures c.loop-i.invariant.passes (omega (arith, low, c.loop-i.invariant.become.long, c.requires.long)) (c.in_ok-put.ensures ∙ ap (λ ks. slice_set c.loop-i.made.items (slice_index_or list c.loop-i.i 0) (becomes_at r (state_where c.loop-i.reaches ks) c.node-node.result.now)) c.as_slice.ensures.value);
+          (slice_get-get_or list c.loop-i.i 0 lt) c.node-node.ensures c.loop-i.invariant.passes (omega (arith, low, c.loop-i.invariant.become.long, c.requires.long)) c.in_ok-put.ensures;
     }
 
 pub returns : goal.returns
 returns g c =
     let end : c.loop-i.i ≡ length c.args.list.now = omega (arith, c.loop-i-test.false, c.loop-i.auto.i-end) in
-    subst (λ k. RewritesIn g.K.Knowledge.rules c.args.graph.now c.args.list.now (state_where c.args.reached c.args.known.now.items) k c.args.made.now.items c.loop-i.made.items) end c.loop-i.invariant.become
+    subst (λ k. RewritesIn g.K.Knowledge.rules c.args.graph.now c.args.list.now (state_where c.args.reached c.args.known.now) k c.args.made.now.items c.loop-i.made.items) end c.loop-i.invariant.become

@@ -7,6 +7,6 @@ use Rattle.cond_flow.proofs.rewriting.rewrite_list.Given as goal
 
 abbrev pub invariant-loop-i : goal.invariant-loop-i
 invariant-loop-i g l = record {
-  passes : state_where l.reaches l.known.items ≡ through_nodes (passed_along g.K.Knowledge.rules l.graph.shared l.graph.received) l.graph.nodes (take l.i l.list) (state_where l.reached l.fn.known.items);
-  become : RewritesIn g.K.Knowledge.rules l.graph l.list (state_where l.reached l.fn.known.items) l.i l.fn.made.items l.made.items;
+  passes : state_where l.reaches l.known ≡ through_nodes (passed_along g.K.Knowledge.rules l.graph.shared l.graph.received) l.graph.nodes (take l.i l.list) (state_where l.reached l.fn.known);
+  become : RewritesIn g.K.Knowledge.rules l.graph l.list (state_where l.reached l.fn.known) l.i l.fn.made.items l.made.items;
 }

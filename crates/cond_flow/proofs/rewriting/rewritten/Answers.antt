@@ -34,7 +34,7 @@ exact g c =
     record {
       states = are.states;
       least = are.least;
-      is = made;
+      made = made;
       kept = exactly_kept g.met.K.Knowledge.laws.order graph c.in_ok-made.made are.states (λ m slot s edge. (can.succs m slot s edge).1) are.least made;
     }
 

@@ -8,6 +8,6 @@ loop-x-preserved g c =
     let top = g.K.Knowledge.rules.top in
     let x = c.loop-x.x in
     let more : c.args.shared - x ≡ suc (c.args.shared - (x + 1)) = omega (arith, c.loop-x-test.true) in
-    ap (all_set top (range_with_len (x + 1) (c.args.shared - (x + 1)))) (c.put.ensures ∙ ap (slice_set c.loop-x.known.items x) c.top.ensures)
-    ∙ sym (ap (λ n. all_set top (range_with_len x n) c.loop-x.known.items) more)
+    ap (all_set top (range_with_len (x + 1) (c.args.shared - (x + 1)))) (c.set.ensures ∙ ap (slice_set c.loop-x.known x) c.top.ensures)
+    ∙ sym (ap (λ n. all_set top (range_with_len x n) c.loop-x.known) more)
     ∙ c.loop-x.invariant

@@ -6,5 +6,5 @@ use Rattle.cond_flow.proofs.transfer.forget_globals.Given as goal
 
 abbrev pub invariant-loop-x : goal.invariant-loop-x
 invariant-loop-x g l =
-    all_set g.K.Knowledge.rules.top (range_with_len l.x (l.shared - l.x)) l.known.items
-    ≡ all_set g.K.Knowledge.rules.top (shared_vars l.shared) l.fn.known.items
+    all_set g.K.Knowledge.rules.top (range_with_len l.x (l.shared - l.x)) l.known
+    ≡ all_set g.K.Knowledge.rules.top (shared_vars l.shared) l.fn.known

@@ -4,5 +4,5 @@ use Rattle.cond_flow.proofs.transfer.start.Given as goal
 
 abbrev pub invariant-loop-x : goal.invariant-loop-x
 invariant-loop-x g l =
-    all_set g.K.Knowledge.rules.top (drop l.x-index l.received) l.known.items
-    ≡ start_known g.K.Knowledge.rules l.shared l.received (length l.fn.known.items)
+    all_set g.K.Knowledge.rules.top (drop l.x-index l.received) l.known
+    ≡ start_known g.K.Knowledge.rules l.shared l.received (length l.fn.known)

@@ -39,6 +39,6 @@ returns-else-may_pass g c =
     let laws = passing_laws g.met.K.Knowledge.laws.order g.met.K.Knowledge.laws.rising graph.shared graph.received in
     let list = c.nodes-list.result.now in
     let slot = c.args.number % 2 in
-    ap (λ ks. Unreached (length ks)) c.refill.ensures
+    ap Unreached (sym c.requires.fits)
     ∙ out_none g.K.Knowledge.rules graph.shared graph.received laws graph.nodes list slot (Knows c.args.known.now) c.node.result.now (subst (λ n. slice_get graph.nodes n ≡ Some c.node.result.now) c.last.ensures c.node.ensures) (c.may_pass.ensures c.if-may_pass.false)
     ∙ ap (λ l. out_of along graph.nodes l slot (Knows c.args.known.now)) (sym (get_or_from_slice_get f.blocks.now.lists (c.args.number / 2) list [] c.nodes-list.ensures))

@@ -1,5 +1,5 @@
-use Rattle.std.proofs.Common.{◌≡◌, ◌↔◌, ◌/◌, ◌%◌, false, if◌then◌else◌, length, sym, ap, ◌∙◌, subst}
-use Rattle.cond_flow.specs.States.{Knows, joined_each, state_where}
+use Rattle.std.proofs.Common.{◌≡◌, ◌↔◌, ◌/◌, ◌%◌, false, sym, ◌∙◌, subst}
+use Rattle.cond_flow.specs.States.{Knows, state_where}
 use Rattle.cond_flow.specs.Blockwise.{block_at}
 use Rattle.cond_flow.specs.PassingLaws.{passing_laws}
 use Rattle.cond_flow.proofs.JoinCases.{first_same, kept_long, leaves_long, passes_first, passes_on, upper_of, where_long}
@@ -11,8 +11,8 @@ join_where-requires g c =
     let f = c.args.self.now in
     let graph = f.graph.now in
     let i = c.into.inside in
-    let left = leaves_long laws.order (passing_laws laws.order laws.rising graph.shared graph.received) graph.nodes (block_at f.blocks.now.lists (c.args.number / 2)) (c.args.number % 2) c.pass-passes.result c.pass-passes.new.room.items (Knows c.args.known.now) c.pass-passes.ensures in
-    ap length c.as_slice.ensures.value ∙ left ∙ c.requires.long ∙ sym (kept_long i.reached i.known.items c.args.into.now c.into.view_is)
+    let left = leaves_long laws.order (passing_laws laws.order laws.rising graph.shared graph.received) graph.nodes (block_at f.blocks.now.lists (c.args.number / 2)) (c.args.number % 2) c.pass-passes.result c.pass-passes.new.room (Knows c.args.known.now) c.pass-passes.ensures in
+    left ∙ c.requires.long ∙ sym (kept_long i.reached i.known c.args.into.now c.into.view_is)
 
 pub invariant_of-into : goal.invariant_of-into
 invariant_of-into g c =
@@ -21,9 +21,9 @@ invariant_of-into g c =
     let f = c.args.self.now in
     let graph = f.graph.now in
     let i = c.into.inside in
-    let left = leaves_long laws.order (passing_laws laws.order laws.rising graph.shared graph.received) graph.nodes (block_at f.blocks.now.lists (c.args.number / 2)) (c.args.number % 2) c.pass-passes.result c.pass-passes.new.room.items (Knows c.args.known.now) c.pass-passes.ensures in
-    let same = left ∙ c.requires.long ∙ sym (kept_long i.reached i.known.items c.args.into.now c.into.view_is) in
-    same ∙ sym (where_long r.joined r.top c.pass-passes.result i.known.items c.as_slice.result.now c.join_where.new.known.items c.join_where.ensures.joined (sym (ap length c.as_slice.ensures.value ∙ same)))
+    let left = leaves_long laws.order (passing_laws laws.order laws.rising graph.shared graph.received) graph.nodes (block_at f.blocks.now.lists (c.args.number / 2)) (c.args.number % 2) c.pass-passes.result c.pass-passes.new.room (Knows c.args.known.now) c.pass-passes.ensures in
+    let same = left ∙ c.requires.long ∙ sym (kept_long i.reached i.known c.args.into.now c.into.view_is) in
+    same ∙ sym (where_long r.joined r.top c.pass-passes.result i.known c.pass-passes.new.room c.join_where.new.known c.join_where.ensures.joined (sym same))
 
 pub returns-then-into-clause-joined : goal.returns-then-into-clause-joined
 returns-then-into-clause-joined g c =
@@ -32,12 +32,12 @@ returns-then-into-clause-joined g c =
     let f = c.args.self.now in
     let graph = f.graph.now in
     let i = c.into.inside in
-    let passed = c.pass-passes.new.room.items in
+    let passed = c.pass-passes.new.room in
     let left = leaves_long laws.order (passing_laws laws.order laws.rising graph.shared graph.received) graph.nodes (block_at f.blocks.now.lists (c.args.number / 2)) (c.args.number % 2) c.pass-passes.result passed (Knows c.args.known.now) c.pass-passes.ensures in
-    let same = left ∙ c.requires.long ∙ sym (kept_long i.reached i.known.items c.args.into.now c.into.view_is) in
-    upper_of laws.order (state_where i.reached i.known.items) c.args.into.now (state_where c.pass-passes.result passed) _ _ c.into.view_is c.pass-passes.ensures
-    (passes_on laws.order i.reached i.known.items c.pass-passes.result passed c.join_where.new.known.items c.if-into.true (sym same)
-    (c.join_where.ensures.joined ∙ ap (λ l. if c.pass-passes.result then joined_each r.joined i.known.items l else i.known.items) c.as_slice.ensures.value))
+    let same = left ∙ c.requires.long ∙ sym (kept_long i.reached i.known c.args.into.now c.into.view_is) in
+    upper_of laws.order (state_where i.reached i.known) c.args.into.now (state_where c.pass-passes.result passed) _ _ c.into.view_is c.pass-passes.ensures
+    (passes_on laws.order i.reached i.known c.pass-passes.result passed c.join_where.new.known c.if-into.true (sym same)
+    c.join_where.ensures.joined)
 
 pub invariant_of-into-else-into : goal.invariant_of-into-else-into
 invariant_of-into-else-into g c =
@@ -45,8 +45,8 @@ invariant_of-into-else-into g c =
     let f = c.args.self.now in
     let graph = f.graph.now in
     let i = c.into.inside in
-    let left = leaves_long laws.order (passing_laws laws.order laws.rising graph.shared graph.received) graph.nodes (block_at f.blocks.now.lists (c.args.number / 2)) (c.args.number % 2) c.pass-passes-else-into.result c.pass-passes-else-into.new.room.items (Knows c.args.known.now) c.pass-passes-else-into.ensures in
-    let same = left ∙ c.requires.long ∙ sym (kept_long i.reached i.known.items c.args.into.now c.into.view_is) in
+    let left = leaves_long laws.order (passing_laws laws.order laws.rising graph.shared graph.received) graph.nodes (block_at f.blocks.now.lists (c.args.number / 2)) (c.args.number % 2) c.pass-passes-else-into.result c.pass-passes-else-into.new.room (Knows c.args.known.now) c.pass-passes-else-into.ensures in
+    let same = left ∙ c.requires.long ∙ sym (kept_long i.reached i.known c.args.into.now c.into.view_is) in
     c.into.invariant ∙ sym same
 
 pub returns-else-into-clause-joined : goal.returns-else-into-clause-joined
@@ -55,11 +55,11 @@ returns-else-into-clause-joined g c =
     let f = c.args.self.now in
     let graph = f.graph.now in
     let i = c.into.inside in
-    let passed = c.pass-passes-else-into.new.room.items in
+    let passed = c.pass-passes-else-into.new.room in
     let left = leaves_long laws.order (passing_laws laws.order laws.rising graph.shared graph.received) graph.nodes (block_at f.blocks.now.lists (c.args.number / 2)) (c.args.number % 2) c.pass-passes-else-into.result passed (Knows c.args.known.now) c.pass-passes-else-into.ensures in
-    let same = left ∙ c.requires.long ∙ sym (kept_long i.reached i.known.items c.args.into.now c.into.view_is) in
-    upper_of laws.order (state_where i.reached i.known.items) c.args.into.now (state_where c.pass-passes-else-into.result passed) _ _ c.into.view_is c.pass-passes-else-into.ensures
-    (passes_first laws.order i.reached i.known.items c.pass-passes-else-into.result passed c.if-into.false (sym same))
+    let same = left ∙ c.requires.long ∙ sym (kept_long i.reached i.known c.args.into.now c.into.view_is) in
+    upper_of laws.order (state_where i.reached i.known) c.args.into.now (state_where c.pass-passes-else-into.result passed) _ _ c.into.view_is c.pass-passes-else-into.ensures
+    (passes_first laws.order i.reached i.known c.pass-passes-else-into.result passed c.if-into.false (sym same))
 
 pub returns-else-into-clause-unchanged : goal.returns-else-into-clause-unchanged
 returns-else-into-clause-unchanged g c =
@@ -68,7 +68,7 @@ returns-else-into-clause-unchanged g c =
     let graph = f.graph.now in
     let i = c.into.inside in
     let r = c.pass-passes-else-into.result in
-    let passed = c.pass-passes-else-into.new.room.items in
+    let passed = c.pass-passes-else-into.new.room in
     let left = leaves_long laws.order (passing_laws laws.order laws.rising graph.shared graph.received) graph.nodes (block_at f.blocks.now.lists (c.args.number / 2)) (c.args.number % 2) r passed (Knows c.args.known.now) c.pass-passes-else-into.ensures in
-    let same = left ∙ c.requires.long ∙ sym (kept_long i.reached i.known.items c.args.into.now c.into.view_is) in
-    subst (λ s. (r ≡ false) ↔ (state_where r passed ≡ s)) c.into.view_is (first_same i.reached i.known.items passed r c.if-into.false same)
+    let same = left ∙ c.requires.long ∙ sym (kept_long i.reached i.known c.args.into.now c.into.view_is) in
+    subst (λ s. (r ≡ false) ↔ (state_where r passed ≡ s)) c.into.view_is (first_same i.reached i.known passed r c.if-into.false same)

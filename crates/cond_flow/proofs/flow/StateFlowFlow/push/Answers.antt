@@ -10,5 +10,5 @@ returns-else-from-clause-joined g c =
     let f = c.args.self.now in
     let graph = f.graph.now in
     let s = c.from.inside in
-    pushes_none laws.order (passing_laws laws.order laws.rising graph.shared graph.received) graph.nodes (block_at f.blocks.now.lists (c.args.number / 2)) (c.args.number % 2) c.args.into.now s.reached s.known.items c.args.from.now c.if-from.false c.from.view_is
+    pushes_none laws.order (passing_laws laws.order laws.rising graph.shared graph.received) graph.nodes (block_at f.blocks.now.lists (c.args.number / 2)) (c.args.number % 2) c.args.into.now s.reached s.known c.args.from.now c.if-from.false c.from.view_is
     (c.requires.into_size ∙ sym c.requires.from_size)

@@ -1,5 +1,5 @@
-use Rattle.std.proofs.Common.{◌/◌, ◌%◌, if◌then◌else◌, length, refl, sym, ap, ◌∙◌}
-use Rattle.cond_flow.specs.States.{Knows, joined_each, state_where}
+use Rattle.std.proofs.Common.{◌/◌, ◌%◌, refl, sym, ap, ◌∙◌}
+use Rattle.cond_flow.specs.States.{Knows, state_where}
 use Rattle.cond_flow.specs.Blockwise.{block_at, out_of}
 use Rattle.cond_flow.specs.Passing.{passed_along}
 use Rattle.cond_flow.specs.PassingLaws.{passing_laws}
@@ -11,8 +11,8 @@ join_where-requires g c =
     let laws = g.met.K.Knowledge.laws in
     let f = c.args.self.now in
     let graph = f.graph.now in
-    let left = leaves_long laws.order (passing_laws laws.order laws.rising graph.shared graph.received) graph.nodes (block_at f.blocks.now.lists (c.args.number / 2)) (c.args.number % 2) c.pass-passes.result c.pass-passes.new.room.items (Knows c.as_slice.result.now) c.pass-passes.ensures in
-    ap length c.as_slice-then-value.ensures.value ∙ left ∙ ap length c.as_slice.ensures.value
+    let left = leaves_long laws.order (passing_laws laws.order laws.rising graph.shared graph.received) graph.nodes (block_at f.blocks.now.lists (c.args.number / 2)) (c.args.number % 2) c.pass-passes.result c.pass-passes.new.room (Knows c.value.inside.known) c.pass-passes.ensures in
+    left
 
 pub invariant_of-value : goal.invariant_of-value
 invariant_of-value g c =
@@ -21,9 +21,9 @@ invariant_of-value g c =
     let f = c.args.self.now in
     let graph = f.graph.now in
     let s = c.value.inside in
-    let left = leaves_long laws.order (passing_laws laws.order laws.rising graph.shared graph.received) graph.nodes (block_at f.blocks.now.lists (c.args.number / 2)) (c.args.number % 2) c.pass-passes.result c.pass-passes.new.room.items (Knows c.as_slice.result.now) c.pass-passes.ensures in
-    let same = left ∙ ap length c.as_slice.ensures.value in
-    same ∙ sym (where_long r.joined r.top c.pass-passes.result s.known.items c.as_slice-then-value.result.now c.join_where.new.known.items c.join_where.ensures.joined (sym (ap length c.as_slice-then-value.ensures.value ∙ same)))
+    let left = leaves_long laws.order (passing_laws laws.order laws.rising graph.shared graph.received) graph.nodes (block_at f.blocks.now.lists (c.args.number / 2)) (c.args.number % 2) c.pass-passes.result c.pass-passes.new.room (Knows c.value.inside.known) c.pass-passes.ensures in
+    let same = left in
+    same ∙ sym (where_long r.joined r.top c.pass-passes.result s.known c.pass-passes.new.room c.join_where.new.known c.join_where.ensures.joined (sym same))
 
 pub returns-then-value-clause-joined : goal.returns-then-value-clause-joined
 returns-then-value-clause-joined g c =
@@ -32,15 +32,15 @@ returns-then-value-clause-joined g c =
     let f = c.args.self.now in
     let graph = f.graph.now in
     let s = c.value.inside in
-    let passed = c.pass-passes.new.room.items in
+    let passed = c.pass-passes.new.room in
     let list = block_at f.blocks.now.lists (c.args.number / 2) in
-    let left = leaves_long laws.order (passing_laws laws.order laws.rising graph.shared graph.received) graph.nodes list (c.args.number % 2) c.pass-passes.result passed (Knows c.as_slice.result.now) c.pass-passes.ensures in
-    let same = left ∙ ap length c.as_slice.ensures.value in
+    let left = leaves_long laws.order (passing_laws laws.order laws.rising graph.shared graph.received) graph.nodes list (c.args.number % 2) c.pass-passes.result passed (Knows c.value.inside.known) c.pass-passes.ensures in
+    let same = left in
     let out = out_of (passed_along r graph.shared graph.received) graph.nodes list (c.args.number % 2) in
-    upper_of laws.order (state_where s.reached s.known.items) c.args.value.now (state_where c.pass-passes.result passed) (out c.args.value.now) _ c.value.view_is
-    (c.pass-passes.ensures ∙ ap (λ ks. out (Knows ks)) c.as_slice.ensures.value ∙ ap out (known_is s.reached s.known.items c.args.value.now c.if-value.true c.value.view_is))
-    (passes_on laws.order s.reached s.known.items c.pass-passes.result passed c.join_where.new.known.items c.if-value.true (sym same)
-    (c.join_where.ensures.joined ∙ ap (λ l. if c.pass-passes.result then joined_each r.joined s.known.items l else s.known.items) c.as_slice-then-value.ensures.value))
+    upper_of laws.order (state_where s.reached s.known) c.args.value.now (state_where c.pass-passes.result passed) (out c.args.value.now) _ c.value.view_is
+    (c.pass-passes.ensures ∙ ap out (known_is s.reached s.known c.args.value.now c.if-value.true c.value.view_is))
+    (passes_on laws.order s.reached s.known c.pass-passes.result passed c.join_where.new.known c.if-value.true (sym same)
+    c.join_where.ensures.joined)
 
 pub returns-else-value-clause-joined : goal.returns-else-value-clause-joined
 returns-else-value-clause-joined g c =
@@ -48,4 +48,4 @@ returns-else-value-clause-joined g c =
     let f = c.args.self.now in
     let graph = f.graph.now in
     let s = c.value.inside in
-    pushes_none laws.order (passing_laws laws.order laws.rising graph.shared graph.received) graph.nodes (block_at f.blocks.now.lists (c.args.number / 2)) (c.args.number % 2) c.args.value.now s.reached s.known.items c.args.value.now c.if-value.false c.value.view_is refl
+    pushes_none laws.order (passing_laws laws.order laws.rising graph.shared graph.received) graph.nodes (block_at f.blocks.now.lists (c.args.number / 2)) (c.args.number % 2) c.args.value.now s.reached s.known c.args.value.now c.if-value.false c.value.view_is refl

@@ -9,19 +9,19 @@ pub invariant_of-self : goal.invariant_of-self
 invariant_of-self g c =
     let r = g.K.Knowledge.rules in
     let i = c.self.inside in
-    let size = kept_long i.reached i.known.items c.args.self.now c.self.view_is ∙ sym c.requires in
-    c.self.invariant ∙ sym (ap length c.join_each.ensures.joined ∙ length_joined r.joined r.top i.known.items c.args.known.now size)
+    let size = kept_long i.reached i.known c.args.self.now c.self.view_is ∙ sym c.requires in
+    c.self.invariant ∙ sym (ap length c.join_from.ensures.joined ∙ length_joined r.joined r.top i.known c.args.known.now size)
 
 pub returns-then-self-clause-joined : goal.returns-then-self-clause-joined
 returns-then-self-clause-joined g c =
     let i = c.self.inside in
-    let size = kept_long i.reached i.known.items c.args.self.now c.self.view_is ∙ sym c.requires in
-    subst (λ s. IsLeastUpper (BelowState g.K.Knowledge.below) s (Knows c.args.known.now) (state_where i.reached c.join_each.new.list.items)) c.self.view_is
-    (meets_known g.met.K.Knowledge.laws.order i.reached i.known.items c.args.known.now c.join_each.new.list.items c.if-self.true size c.join_each.ensures.joined)
+    let size = kept_long i.reached i.known c.args.self.now c.self.view_is ∙ sym c.requires in
+    subst (λ s. IsLeastUpper (BelowState g.K.Knowledge.below) s (Knows c.args.known.now) (state_where i.reached c.join_from.new.self)) c.self.view_is
+    (meets_known g.met.K.Knowledge.laws.order i.reached i.known c.args.known.now c.join_from.new.self c.if-self.true size c.join_from.ensures.joined)
 
 pub returns-else-self-clause-joined : goal.returns-else-self-clause-joined
 returns-else-self-clause-joined g c =
     let i = c.self.inside in
-    let size = kept_long i.reached i.known.items c.args.self.now c.self.view_is ∙ sym c.requires in
-    subst (λ s. IsLeastUpper (BelowState g.K.Knowledge.below) s (Knows c.args.known.now) (Knows c.refill.new.list.items)) c.self.view_is
-    (meets_first g.met.K.Knowledge.laws.order i.reached i.known.items c.args.known.now c.refill.new.list.items c.if-self.false size c.refill.ensures)
+    let size = kept_long i.reached i.known c.args.self.now c.self.view_is ∙ sym c.requires in
+    subst (λ s. IsLeastUpper (BelowState g.K.Knowledge.below) s (Knows c.args.known.now) (Knows c.refill.new.self)) c.self.view_is
+    (meets_first g.met.K.Knowledge.laws.order i.reached i.known c.args.known.now c.refill.new.self c.if-self.false size c.refill.ensures)

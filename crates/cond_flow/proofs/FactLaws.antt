@@ -1,0 +1,67 @@
+-- What is known of variables, as it is kept in two lists, place by place.
+use Rattle.std.proofs.Common.{◌≡◌, ℕ, ℤ, zero, suc, ◌+◌, ◌<◌, ◌≤◌, slice_set, List, [], ◌∷◌, ◌++◌, length, take, replicate, get_or, refl, sym, ap, arith, ◌∙◌, ⊎_elim, take_all}
+use Rattle.std.specs.List.{AllClonesOf, AppendsClonesOf}
+use Rattle.std.proofs.lemmas.Option.{slice_get-get_or}
+use Rattle.flow_graph.specs.ListLaws.{take_next}
+use Rattle.cond_flow.specs.FactLists.{decoded_each}
+
+module _ {K : Type 0} (decoded : ℕ → ℤ → K) where
+  -- as many are known as there are numbers
+  pub length_facts : (kinds : List ℕ) (numbers : List ℤ) → length numbers ≡ length kinds → length (decoded_each decoded kinds numbers) ≡ length kinds
+  length_facts [] numbers e = refl
+  length_facts (k ∷ kinds) [] e = absurd (omega (arith, e))
+  length_facts (k ∷ kinds) (n ∷ numbers) e = ap suc (length_facts kinds numbers (let e' : suc (length numbers) ≡ suc (length kinds) = e in omega arith))
+
+  -- what is known of one
+  pub facts_at : (kinds : List ℕ) (numbers : List ℤ) (x d : ℕ) (v : ℤ) (otherwise : K) → length numbers ≡ length kinds → x < length kinds → get_or (decoded_each decoded kinds numbers) x otherwise ≡ decoded (get_or kinds x d) (get_or numbers x v)
+  facts_at [] numbers x d v o e h = absurd (omega (arith, h))
+  facts_at (k ∷ kinds) [] x d v o e h = absurd (omega (arith, e))
+  facts_at (k ∷ kinds) (n ∷ numbers) zero d v o e h = refl
+  facts_at (k ∷ kinds) (n ∷ numbers) (suc x) d v o e h = facts_at kinds numbers x d v o (let e' : suc (length numbers) ≡ suc (length kinds) = e in omega arith) (let h' : suc x < suc (length kinds) = h in omega arith)
+
+  -- nothing is known past the last
+  pub facts_past : (kinds : List ℕ) (numbers : List ℤ) (x : ℕ) (otherwise : K) → length numbers ≡ length kinds → length kinds ≤ x → get_or (decoded_each decoded kinds numbers) x otherwise ≡ otherwise
+  facts_past [] numbers x o e h = refl
+  facts_past (k ∷ kinds) [] x o e h = absurd (omega (arith, e))
+  facts_past (k ∷ kinds) (n ∷ numbers) zero o e h = absurd (omega (arith, h))
+  facts_past (k ∷ kinds) (n ∷ numbers) (suc x) o e h = facts_past kinds numbers x o (let e' : suc (length numbers) ≡ suc (length kinds) = e in omega arith) (let h' : suc (length kinds) ≤ suc x = h in omega arith)
+
+  -- one is set in both lists
+  pub facts_set : (kinds : List ℕ) (numbers : List ℤ) (x k : ℕ) (n : ℤ) → length numbers ≡ length kinds → decoded_each decoded (slice_set kinds x k) (slice_set numbers x n) ≡ slice_set (decoded_each decoded kinds numbers) x (decoded k n)
+  facts_set [] [] x k n e = refl
+  facts_set [] (v ∷ numbers) x k n e = absurd (omega (arith, e))
+  facts_set (f ∷ kinds) [] x k n e = absurd (omega (arith, e))
+  facts_set (f ∷ kinds) (v ∷ numbers) zero k n e = refl
+  facts_set (f ∷ kinds) (v ∷ numbers) (suc x) k n e = ap (λ l. decoded f v ∷ l) (facts_set kinds numbers x k n (let e' : suc (length numbers) ≡ suc (length kinds) = e in omega arith))
+
+  -- the same of each
+  pub facts_alike : (c k : ℕ) (n : ℤ) → decoded_each decoded (replicate c k) (replicate c n) ≡ replicate c (decoded k n)
+  facts_alike zero k n = refl
+  facts_alike (suc c) k n = ap (λ l. decoded k n ∷ l) (facts_alike c k n)
+
+-- past the last nothing is set
+pub items_kept : {T : Type 0} (ks : List T) (x : ℕ) (k : T) → length ks ≤ x → slice_set ks x k ≡ ks
+items_kept [] x k h = refl
+items_kept (a ∷ ks) zero k h = absurd (omega (arith, h))
+items_kept (a ∷ ks) (suc x) k h = ap (λ l. a ∷ l) (items_kept ks x k (let h' : suc (length ks) ≤ suc x = h in omega arith))
+
+-- clones that are the same are as many copies
+pub alike_clones : {T : Type 0} (x : T) (ys : List T) → AllClonesOf (λ a b. b ≡ a) x ys → ys ≡ replicate (length ys) x
+alike_clones x [] every = refl
+alike_clones x (y ∷ ys) every =
+    let here : y ≡ x = ⊎_elim (λ e. e) (λ e. e) every.0 in
+    ap (λ z. z ∷ ys) here ∙ ap (λ l. x ∷ l) (alike_clones x ys every.1)
+
+-- an empty list that is filled up
+pub filled_up : {T : Type 0} (n : ℕ) (x : T) (old new : List T) → old ≡ [] → AppendsClonesOf (λ a b. b ≡ a) (take n old) new x → length new ≡ n → new ≡ replicate n x
+filled_up n x old new empty made count =
+    let ys = made.0 in
+    let front : take n old ≡ [] = ap (take n) empty ∙ take_all n [] (omega arith) in
+    let all : new ≡ ys = made.1 ∙ ap (λ l. l ++ ys) front in
+    all ∙ alike_clones x ys made.2 ∙ ap (λ k. replicate k x) (sym (ap length all) ∙ count)
+
+-- one more
+pub listed_more : {K : Type 0} (ks list : List K) (x : ℕ) (k d : K) → x < length ks → list ≡ take x ks → k ≡ get_or ks x d → list ++ k ∷ [] ≡ take (x + 1) ks
+listed_more ks list x k d h so_far is =
+    let more : take (x + 1) ks ≡ take x ks ++ get_or ks x d ∷ [] = ap (λ n. take n ks) (let e : x + 1 ≡ suc x = omega arith in e) ∙ take_next ks x (get_or ks x d) (slice_get-get_or ks x d h) in
+    ap (λ l. l ++ k ∷ []) so_far ∙ ap (λ j. take x ks ++ j ∷ []) is ∙ sym more
