@@ -9,7 +9,8 @@ use Rattle.pass_chain.specs.Passes.{IsChained, IsPassedBy}
 
 -- A loop has come from the source to this program: what the steps that are left make of the program is what is to be
 -- made of the source, and nothing else is
-pub record HasCome (Whole : ProgramShape → Type 0) (source last : ProgramShape) (Left : ProgramShape → Type 0) : Type 0 where
+pub record HasCome (Whole : ProgramShape → Type 0) (source last : ProgramShape)
+    (Left : ProgramShape → Type 0) : Type 0 where
   pub forth : (target : ProgramShape) → Left target → Whole target
   pub back : (target : ProgramShape) → Whole target → Left target
   pub keeps : KeepsRuns source last

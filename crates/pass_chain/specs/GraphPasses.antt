@@ -6,12 +6,14 @@ use Rattle.flow_graph.specs.Passes.{GraphKeeps}
 use Rattle.program_pass.specs.PassPrograms.{AllPassed, CleanedLaid, PassRelation, PassedAt}
 
 -- the exact result of a pass on a graph, of which there is no other
-pub record IsOnlyResult (Exact : GraphShape → GraphShape → Type 0) (graph result : GraphShape) : Type 0 where
+pub record IsOnlyResult (Exact : GraphShape → GraphShape → Type 0)
+    (graph result : GraphShape) : Type 0 where
   pub is : Exact graph result
   pub only : (other : GraphShape) → Exact graph other → result ≡ other
 
 -- the unit is that of the only result of the pass on the graph, which keeps the graph
-pub record IsMadeOf (Exact : GraphShape → GraphShape → Type 0) (graph : GraphShape) (unit : UnitShape) : Type 0 where
+pub record IsMadeOf (Exact : GraphShape → GraphShape → Type 0) (graph : GraphShape)
+    (unit : UnitShape) : Type 0 where
   pub passed : GraphShape
   pub result : IsOnlyResult Exact graph passed
   pub keeps : GraphKeeps graph passed

@@ -17,8 +17,9 @@ use Rattle.mir_opt.specs.declared.trails.MoveTrail.{MoveTrail}
 use Rattle.mir_opt.specs.declared.trails.Trail.{Trail}
 use Rattle.mir_opt.specs.Links.{IsDivisionLinked, IsLinked, IsMoveLinked}
 use Rattle.called_units.specs.CalledUnits.{HasCalledUnits}
+use Rattle.program_wanted.specs.WantedPrograms.{IsWantedProgram}
 use Rattle.pass_chain.specs.declared.passes.Pass.{Pass}
-use Rattle.pass_chain.specs.declared.passes.Pass.TheVariants.{Tails, Join, Optimise, Clean, Fold, Number, Copies, Motion, Divisions, Sink, Bounds, Wanted, Called}
+use Rattle.pass_chain.specs.declared.passes.Pass.TheVariants.{Tails, Join, Optimise, Clean, Fold, Number, Copies, Motion, Divisions, Sink, Bounds, Wanted, Demanded, Called}
 
 -- ---- passes on graphs
 
@@ -76,6 +77,7 @@ IsPassedBy Divisions = HasDivisionsMoved
 IsPassedBy Sink = PassesGraphs SunkInRounds
 IsPassedBy Bounds = PassesGraphs IsBounded
 IsPassedBy Wanted = PassesGraphs IsNarrowed
+IsPassedBy Demanded = IsWantedProgram
 IsPassedBy Called = HasCalledUnits
 
 -- the target is the exact result of these passes on the source one after another, from the first to the last

@@ -5,7 +5,7 @@ ghost use Rattle.pass_chain.specs.Passes.{IsPassedBy};
 
 use crate::graph_passes::{Bounding, Cleaning, Copying, Folding, Narrowing, Numbering, Sinking};
 use crate::over_units::program_through;
-use crate::whole::{divided, joined, looped, moved, optimised, with_called_units};
+use crate::whole::{demanded, divided, joined, looped, moved, optimised, with_called_units};
 use mir_base::{Memory, Program};
 use std::alloc::Global;
 
@@ -36,6 +36,8 @@ pub enum Pass {
     Bounds,
     /// Operators that change no bit that is wanted go.
     Wanted,
+    /// What no unit of the program wants of another goes.
+    Demanded,
     /// The units that no call leads to go.
     Called,
 }
@@ -43,10 +45,10 @@ pub enum Pass {
 /// What a pass makes of a program. It is the same, evaluates no more operators, and never has more frames. It fails only
 /// with `Memory`.
 ///
-/// `Tails`, `Join` and `Called` make what `tail_program`, `join_program` and `called_program` make, and `Optimise`,
-/// `Motion` and `Divisions` the targets of `optimise`, `motion` and `divisions`. The others are passes on graphs: each
-/// unit is lowered, cleaned, passed, cleaned and laid out. `Clean` does nothing in between, and `Sink` splits the graph
-/// and then makes its rounds.
+/// `Tails`, `Join`, `Demanded` and `Called` make what `tail_program`, `join_program`, `wanted_program` and
+/// `called_program` make, and `Optimise`, `Motion` and `Divisions` the targets of `optimise`, `motion` and `divisions`. The
+/// others are passes on graphs: each unit is lowered, cleaned, passed, cleaned and laid out. `Clean` does nothing in
+/// between, and `Sink` splits the graph and then makes its rounds.
 pub fn pass_program(alloc: Global, pass: Pass, program: &Program) -> Result<Program, Memory>
     ensures passed { IfOk result (IsPassedBy pass program.now) }
     ensures only { IfOk result (IsOnly (IsPassedBy pass program.now)) }
@@ -73,6 +75,7 @@ fn passed(alloc: Global, pass: Pass, program: &Program) -> Result<Program, Memor
         Pass::Sink => program_through::<Sinking>(alloc, program),
         Pass::Bounds => program_through::<Bounding>(alloc, program),
         Pass::Wanted => program_through::<Narrowing>(alloc, program),
+        Pass::Demanded => demanded(alloc, program),
         Pass::Called => with_called_units(alloc, program),
     }
 }

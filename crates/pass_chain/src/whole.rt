@@ -2,6 +2,7 @@
 ghost use Rattle.std.specs.Prelude.{IfOk};
 ghost use Rattle.program_pass.specs.PassPrograms.{IsPassedProgram, Rewrites};
 ghost use Rattle.called_units.specs.CalledUnits.{HasCalledUnits};
+ghost use Rattle.program_wanted.specs.WantedPrograms.{IsWantedProgram};
 ghost use Rattle.tail_loop.specs.Tails.{Tailed};
 ghost use Rattle.pass_chain.specs.Passes.{HasDivisionsMoved, IsMoved, IsOptimised};
 ghost use Rattle.unit_join.specs.JoinPrograms.{IsJoinedProgram};
@@ -9,6 +10,7 @@ ghost use Rattle.unit_join.specs.JoinPrograms.{IsJoinedProgram};
 use called_units::called_program;
 use mir_base::{Memory, Program};
 use mir_opt::{MoveTrail, Trail, divisions, motion, optimise};
+use program_wanted::wanted_program;
 use std::alloc::Global;
 use tail_loop::tail_program;
 use unit_join::join_program;
@@ -26,6 +28,14 @@ pub(crate) fn with_called_units(alloc: Global, program: &Program) -> Result<Prog
     ensures { IfOk result (Rewrites HasCalledUnits program.now) }
 {
     let target = called_program(alloc, program)?;
+    Ok(target)
+}
+
+/// The program in which no unit computes what no other wants of it.
+pub(crate) fn demanded(alloc: Global, program: &Program) -> Result<Program, Memory>
+    ensures { IfOk result (Rewrites IsWantedProgram program.now) }
+{
+    let target = wanted_program(alloc, program)?;
     Ok(target)
 }
 

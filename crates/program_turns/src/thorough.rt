@@ -14,7 +14,7 @@ const TURN: [Pass; 6] = [
     Pass::Tails,
     Pass::Join,
     Pass::Optimise,
-    Pass::Wanted,
+    Pass::Demanded,
     Pass::Bounds,
     Pass::Called,
 ];

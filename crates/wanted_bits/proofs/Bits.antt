@@ -8,7 +8,7 @@ use Rattle.bit_rows.specs.Bits.{row_of}
 use Rattle.flow_graph.specs.declared.nodes.Node.{Node}
 use Rattle.flow_graph.specs.declared.nodes.Node.TheVariants.{Start, Skip, Assign, Print, Guard, Call, Test, Return}
 use Rattle.flow_graph.specs.Graphs.{GraphShape}
-use Rattle.path_laws.specs.KeyRows.{AreKeyRows, any_assigned, any_below}
+use Rattle.key_rows.specs.KeyRows.{AreKeyRows, any_assigned, any_below}
 use Rattle.path_laws.specs.Paths.{has_bit}
 use Rattle.wanted_bits.specs.declared.table.VarShift.{VarShift}
 use Rattle.wanted_bits.specs.Shifts.{assigns_one_of}

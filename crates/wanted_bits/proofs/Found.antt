@@ -16,7 +16,7 @@ use Rattle.flow_graph.specs.Graphs.{GraphShape, IsEdge, IsGraph, assigns}
 use Rattle.flow_graph.specs.PathLaws.{reached_trace}
 use Rattle.flow_graph.specs.Paths.{Trace, from_start, goes_on}
 use Rattle.flow_graph.specs.BoundLaws.{slot_within}
-use Rattle.path_laws.specs.KeyRows.{key_in}
+use Rattle.key_rows.specs.KeyRows.{key_in}
 use Rattle.path_laws.specs.Paths.{Since}
 use Rattle.wanted_bits.specs.declared.table.VarShift.{VarShift}
 use Rattle.wanted_bits.specs.Shifts.{IsShiftedAt, assigns_one_of, ends_shift_at, is_left_shift, is_shift, is_shifted, shifts_at}

@@ -1,13 +1,12 @@
-pub mod Values
-pub mod Steps
+pub mod Locksteps
 pub mod Bits
 pub mod Found
 pub mod Taking
 pub mod Lookups
 pub mod Raising
-pub mod Reading
 pub mod LeastNumbers
 pub mod Noting
+pub mod Asking
 pub mod Pushing
 pub mod Shapes
 pub mod Listing

@@ -4,22 +4,23 @@ use Rattle.fix_solve.specs.Order.{IsLeastUpper}
 use Rattle.flow_graph.specs.Graphs.{GraphShape}
 use Rattle.wanted_bits.specs.declared.table.Shift.{Shift}
 use Rattle.wanted_bits.specs.BitsOrder.{BelowLists, HasFew, few_each, joined_bits, lists_join}
+use Rattle.wanted_bits.specs.Wanted.{Asked}
 use Rattle.wanted_bits.specs.Walking.{before_list}
-use Rattle.wanted_bits.specs.WalkLaws.{list_few, list_long}
+use Rattle.wanted_bits.specs.WalkLaws.{AsksFew, list_few, list_long}
 use Rattle.wanted_bits.specs.WantedNet.{capped}
 use Rattle.wanted_bits.specs.WantedNetLaws.{capped_same}
 
-module _ (graph : GraphShape) (back : ℕ → Option Shift) (list from into passed : List ℕ) (passed_is : passed ≡ before_list graph back list from) (long : length from ≡ length into) (from_few : HasFew from) where
+module _ (graph : GraphShape) (asked : Asked) (asks : AsksFew asked) (back : ℕ → Option Shift) (list from into passed : List ℕ) (passed_is : passed ≡ before_list graph asked back list from) (long : length from ≡ length into) (from_few : HasFew from) where
   -- as many numbers come before the block as are behind it
   pub passed_long : length passed ≡ length into
-  passed_long = ap length passed_is ∙ list_long graph back list from ∙ long
+  passed_long = ap length passed_is ∙ list_long graph asked back list from ∙ long
 
   -- and each is at most 64
   pub passed_few : HasFew passed
-  passed_few = subst HasFew (sym passed_is) (list_few graph back list from from_few)
+  passed_few = subst HasFew (sym passed_is) (list_few graph asked back list from asks from_few)
 
   -- they are joined
-  pub push_joins : HasFew into → IsLeastUpper BelowLists into (capped (before_list graph back list from)) (joined_bits into passed)
+  pub push_joins : HasFew into → IsLeastUpper BelowLists into (capped (before_list graph asked back list from)) (joined_bits into passed)
   push_joins few =
-      subst (λ t. IsLeastUpper BelowLists into t (joined_bits into passed)) (passed_is ∙ sym (capped_same (before_list graph back list from) (list_few graph back list from from_few)))
+      subst (λ t. IsLeastUpper BelowLists into t (joined_bits into passed)) (passed_is ∙ sym (capped_same (before_list graph asked back list from) (list_few graph asked back list from asks from_few)))
       (lists_join into passed (sym passed_long) (few_each into few) (few_each passed passed_few))

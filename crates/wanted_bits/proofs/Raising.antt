@@ -3,6 +3,7 @@ use Rattle.std.proofs.Common.{◌≡◌, ◌≢◌, ◌↔◌, ℕ, zero, suc, �
 use Rattle.std.proofs.lemmas.Bool.{cases_Bool, cases_eq, or_parts}
 use Rattle.std.proofs.lemmas.List.{drop_all, take_all, ext_get_or, get_or-set_other, get_or-set_same, length-set}
 use Rattle.wanted_bits.specs.BitsOrder.{HasFew, joined_bits}
+use Rattle.wanted_bits.specs.JoinedBits.{joined_at, joined_long}
 
 -- the numbers below place i are raised, and the others are as they were
 pub record RaisedTo (xs : List ℕ) (g : ℕ → ℕ) (zs : List ℕ) (changed : Bool) (i : ℕ) : Type 0 where
@@ -50,22 +51,6 @@ raised_more xs g zs new changed raised i least before lt least_is put tells =
         (i, λ same. (let few : least ≤ get_or zs i 0 = omega (arith, same, was, at_i) in let off : true ≡ false = tells.1 few in cc))
     moves false false before tells was at_i other on = absurd (cc)
 
--- ---- the joined list
-
--- a join is as long as the first list
-pub joined_long : (xs ys : List ℕ) → length ys ≡ length xs → length (joined_bits xs ys) ≡ length xs
-joined_long [] ys e = refl
-joined_long (x ∷ xs) [] e = absurd (omega (arith, e))
-joined_long (x ∷ xs) (y ∷ ys) e = ap suc (joined_long xs ys (let e' : suc (length ys) ≡ suc (length xs) = e in omega arith))
-
--- and has the greater number at each place
-joined_at : (xs ys : List ℕ) (k : ℕ) → length ys ≡ length xs → get_or (joined_bits xs ys) k 0 ≡ max (get_or xs k 0) (get_or ys k 0)
-joined_at [] [] k e = refl
-joined_at [] (y ∷ ys) k e = absurd (omega (arith, e))
-joined_at (x ∷ xs) [] k e = absurd (omega (arith, e))
-joined_at (x ∷ xs) (y ∷ ys) zero e = refl
-joined_at (x ∷ xs) (y ∷ ys) (suc k) e = joined_at xs ys k (let e' : suc (length ys) ≡ suc (length xs) = e in omega arith)
-
 -- where all are raised
 pub raised_joined : (xs ys zs : List ℕ) (g : ℕ → ℕ) (changed : Bool) (i : ℕ) → RaisedTo xs g zs changed i → length xs ≤ i → length ys ≡ length xs → ((k : ℕ) → k < length xs → g k ≡ get_or ys k 0) → zs ≡ joined_bits xs ys
 raised_joined xs ys zs g changed i is end e each =
@@ -83,11 +68,7 @@ raised_tells xs zs g changed i is = (
   ],
 )
 
--- few numbers stay few
-pub joined_few : (xs ys : List ℕ) → length ys ≡ length xs → HasFew xs → HasFew ys → HasFew (joined_bits xs ys)
-joined_few xs ys e p q k = omega (arith, joined_at xs ys k e, p k, q k)
-
 -- what is written through a slice of a whole Vec
-pub written_back : (n : ℕ) (new old : List ℕ) → length new ≡ length old → length old ≡ n → take n (new ++ drop (length new) old) ≡ new
-written_back n new old e is =
-    ap (λ l. take n (new ++ l)) (drop_all (length new) old (omega (arith, e))) ∙ ap (take n) (append-nil new) ∙ take_all n new (omega (arith, e, is))
+pub written_back : {A : Type 0} (n : ℕ) (new old : List A) → length new ≡ length old → length old ≡ n → take n (new ++ drop (length new) old) ≡ new
+written_back {A} n new old e is =
+    ap (λ (l : List A). take n (new ++ l)) (drop_all (length new) old (omega (arith, e))) ∙ ap (take n) (append-nil new) ∙ take_all n new (omega (arith, e, is))

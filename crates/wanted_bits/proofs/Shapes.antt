@@ -1,6 +1,6 @@
 -- The narrowed graph has the shape of the graph: the same edges, no other variables and calls, and each division in its
 -- place, as it is.
-use Rattle.std.proofs.Common.{◌≡◌, ℕ, suc, ◌<◌, Bool, true, false, ◌&&◌, ◌||◌, not, nat_eq, if◌then◌else◌, List, [], ◌∷◌, length, slice_get, Option, Some, None, option_map, inl, inr, refl, sym, ap, ◌∙◌, subst, true≢false, ℤ}
+use Rattle.std.proofs.Common.{◌≡◌, ℕ, suc, ◌<◌, Bool, true, false, ◌&&◌, ◌||◌, not, nat_eq, if◌then◌else◌, List, [], ◌∷◌, flat_map, length, slice_get, pos, Option, Some, None, option_map, inl, inr, refl, sym, ap, ◌∙◌, subst, true≢false, ℤ}
 use Rattle.std.proofs.lemmas.Bool.{and_parts}
 use Rattle.std.proofs.lemmas.Option.{slice_get_within}
 use Rattle.mir_base.specs.declared.operators.Op.{Op}
@@ -11,8 +11,8 @@ use Rattle.mir_base.specs.declared.instructions.Rhs.{Rhs}
 use Rattle.mir_base.specs.declared.instructions.Rhs.TheVariants.{Plain, Unary, Binary}
 use Rattle.mir_base.specs.Numbers.{distance, is_dividing, wrapped}
 use Rattle.mir_base.specs.Expressions.{divides, may_be_zero}
-use Rattle.mir_base.specs.Shapes.{AllBelow, operand_vars, rhs_vars}
-use Rattle.mir_base.specs.BelowLaws.{all_below_left, all_below_right}
+use Rattle.mir_base.specs.Shapes.{AllBelow, into_vars, operand_vars, rhs_vars}
+use Rattle.mir_base.specs.BelowLaws.{all_below_append, all_below_left, all_below_right}
 use Rattle.flow_graph.specs.declared.nodes.Node.{Node}
 use Rattle.flow_graph.specs.declared.nodes.Node.TheVariants.{Start, Skip, Assign, Print, Guard, Call, Test, Return}
 use Rattle.flow_graph.specs.Calls.{NodesCall, node_call}
@@ -24,8 +24,9 @@ use Rattle.flow_graph.specs.NodeLaws.{mapped_from}
 use Rattle.flow_graph.specs.PathLaws.{reached_trace}
 use Rattle.flow_graph.specs.Paths.{Trace, from_start, goes_on}
 use Rattle.wanted_bits.specs.declared.table.Shift.{Shift}
-use Rattle.wanted_bits.specs.Wanted.{is_right_shift, is_undone, shift_by, shifted_back}
-use Rattle.wanted_bits.specs.Narrowed.{AreNarrowed, goes, is_neutral, is_neutral_left, narrowed_node, narrowed_past, narrowed_rhs, without_neutral}
+use Rattle.wanted_bits.specs.Wanted.{Asked, is_right_shift, is_undone, shift_by, shifted_back}
+use Rattle.wanted_bits.specs.NarrowedSteps.{handed_long}
+use Rattle.wanted_bits.specs.Narrowed.{AreNarrowed, all_handed, goes, handed, is_neutral, is_neutral_left, narrowed_node, narrowed_past, narrowed_rhs, without_neutral}
 
 -- ---- one node
 
@@ -44,13 +45,29 @@ chosen_start : (b : Bool) (x : ℕ) (rhs : Rhs) (next s : ℕ) → (if b then Sk
 chosen_start true x rhs next s e = cc
 chosen_start false x rhs next s e = cc
 
-module _ (shifts : ℕ → Option Shift) (wanted : ℕ → ℕ → ℕ) where
+-- an operand that is handed over has no other variables
+one_below : (k bits : ℕ) (a : Operand) → AllBelow k (operand_vars a) → AllBelow k (operand_vars (handed bits a))
+one_below k bits a below = by (nat_eq bits 0)
+  where
+    by : (b : Bool) → AllBelow k (operand_vars (if b then Const (pos 0) else a))
+    by true = tt
+    by false = below
+
+-- nor have the arguments
+handed_below : (k : ℕ) (widths : ℕ → ℕ) (i : ℕ) (operands : List Operand) → AllBelow k (flat_map operand_vars operands) → AllBelow k (flat_map operand_vars (all_handed widths i operands))
+handed_below k widths i [] below = tt
+handed_below k widths i (a ∷ operands) below =
+    all_below_append k (operand_vars (handed (widths i) a)) (flat_map operand_vars (all_handed widths (suc i) operands))
+    (one_below k (widths i) a (all_below_left k (operand_vars a) (flat_map operand_vars operands) below))
+    (handed_below k widths (suc i) operands (all_below_right k (operand_vars a) (flat_map operand_vars operands) below))
+
+module _ (asked : Asked) (shifts : ℕ → Option Shift) (wanted : ℕ → ℕ → ℕ) where
   -- whether an assignment goes
   abbrev gone : ℕ → Rhs → ℕ → Bool
   gone x rhs next = goes x rhs (narrowed_rhs shifts rhs (wanted next x)) (wanted next x)
 
   -- the successors of a node stay
-  pub stays_succs : (node : Node) → node_succs (narrowed_node shifts wanted node) ≡ node_succs node
+  pub stays_succs : (node : Node) → node_succs (narrowed_node asked shifts wanted node) ≡ node_succs node
   stays_succs (Start next) = refl
   stays_succs (Skip next) = refl
   stays_succs (Assign x rhs next) = chosen_succs (gone x rhs next) x (narrowed_rhs shifts rhs (wanted next x)) next
@@ -61,18 +78,18 @@ module _ (shifts : ℕ → Option Shift) (wanted : ℕ → ℕ → ℕ) where
   stays_succs (Return a) = refl
 
   -- its call stays
-  stays_call : (node : Node) → node_call (narrowed_node shifts wanted node) ≡ node_call node
+  stays_call : (node : Node) → node_call (narrowed_node asked shifts wanted node) ≡ node_call node
   stays_call (Start next) = refl
   stays_call (Skip next) = refl
   stays_call (Assign x rhs next) = chosen_call (gone x rhs next) x (narrowed_rhs shifts rhs (wanted next x)) next
   stays_call (Print a next) = refl
   stays_call (Guard test number next) = refl
-  stays_call (Call into unit operands next) = refl
+  stays_call (Call into unit operands next) = ap (λ n. Some (unit, n)) (handed_long (asked.arguments unit) 0 operands)
   stays_call (Test test taken other) = refl
   stays_call (Return a) = refl
 
   -- only Start becomes Start
-  pub narrowed_start : (node : Node) (s : ℕ) → narrowed_node shifts wanted node ≡ Start s → node ≡ Start s
+  pub narrowed_start : (node : Node) (s : ℕ) → narrowed_node asked shifts wanted node ≡ Start s → node ≡ Start s
   narrowed_start (Start next) s e = e
   narrowed_start (Skip next) s e = cc
   narrowed_start (Assign x rhs next) s e = absurd (chosen_start (gone x rhs next) x (narrowed_rhs shifts rhs (wanted next x)) next s e)
@@ -134,15 +151,17 @@ module _ (shifts : ℕ → Option Shift) (wanted : ℕ → ℕ → ℕ) where
     chosen_below true x rhs next x_in below = tt
     chosen_below false x rhs next x_in below = (x_in, below)
 
-    pub narrowed_below : (node : Node) → AllBelow k (node_vars node) → AllBelow k (node_vars (narrowed_node shifts wanted node))
+    pub narrowed_below : (node : Node) → AllBelow k (node_vars node) → AllBelow k (node_vars (narrowed_node asked shifts wanted node))
     narrowed_below (Start next) below = below
     narrowed_below (Skip next) below = below
     narrowed_below (Assign x rhs next) below = chosen_below (gone x rhs next) x (narrowed_rhs shifts rhs (wanted next x)) next below.0 (rhs_below rhs (wanted next x) below.1)
     narrowed_below (Print a next) below = below
     narrowed_below (Guard test number next) below = below
-    narrowed_below (Call into unit operands next) below = below
+    narrowed_below (Call into unit operands next) below =
+        all_below_append k (into_vars into) (flat_map operand_vars (all_handed (asked.arguments unit) 0 operands)) (all_below_left k (into_vars into) (flat_map operand_vars operands) below)
+        (handed_below k (asked.arguments unit) 0 operands (all_below_right k (into_vars into) (flat_map operand_vars operands) below))
     narrowed_below (Test test taken other) below = below
-    narrowed_below (Return a) below = below
+    narrowed_below (Return a) below = one_below k asked.result a below
 
   -- ---- divisions
 
@@ -154,7 +173,7 @@ module _ (shifts : ℕ → Option Shift) (wanted : ℕ → ℕ → ℕ) where
   division_same Mod (Const c) b bits is = refl
   division_same _ a b bits is = absurd (true≢false (sym is))
 
-  pub division_stays : (x : ℕ) (op : Op) (a b : Operand) (next : ℕ) → divides (Binary op a b) ≡ true → narrowed_node shifts wanted (Assign x (Binary op a b) next) ≡ Assign x (Binary op a b) next
+  pub division_stays : (x : ℕ) (op : Op) (a b : Operand) (next : ℕ) → divides (Binary op a b) ≡ true → narrowed_node asked shifts wanted (Assign x (Binary op a b) next) ≡ Assign x (Binary op a b) next
   division_stays x op a b next may =
       let parts = and_parts (is_dividing op) (may_be_zero b) may in
       let same = division_same op a b (wanted next x) parts.0 in
@@ -177,13 +196,13 @@ same_length (x ∷ xs) (y ∷ ys) f are = ap suc (same_length xs ys (λ n. f (su
 
 -- ---- the narrowed nodes
 
-module _ (graph : GraphShape) (nodes : List Node) (are : AreNarrowed graph nodes) where
+module _ (asked : Asked) (graph : GraphShape) (nodes : List Node) (are : AreNarrowed asked graph nodes) where
   pub narrowed_length : length nodes ≡ length graph.nodes
-  narrowed_length = same_length nodes graph.nodes (λ n. narrowed_node (are.shifts n) are.wanted) are.nodes_are
+  narrowed_length = same_length nodes graph.nodes (λ n. narrowed_node asked (are.shifts n) are.wanted) are.nodes_are
 
-  succs_of_narrowed : (n : ℕ) (o : Option Node) → succs_of (option_map (narrowed_node (are.shifts n) are.wanted) o) ≡ succs_of o
+  succs_of_narrowed : (n : ℕ) (o : Option Node) → succs_of (option_map (narrowed_node asked (are.shifts n) are.wanted) o) ≡ succs_of o
   succs_of_narrowed n None = refl
-  succs_of_narrowed n (Some node) = stays_succs (are.shifts n) are.wanted node
+  succs_of_narrowed n (Some node) = stays_succs asked (are.shifts n) are.wanted node
 
   pub narrowed_succs : (n : ℕ) → succs_at nodes n ≡ succs_at graph.nodes n
   narrowed_succs n = ap succs_of (are.nodes_are n) ∙ succs_of_narrowed n (slice_get graph.nodes n)
@@ -202,13 +221,13 @@ module _ (graph : GraphShape) (nodes : List Node) (are : AreNarrowed graph nodes
   narrowed_reached n (along m slot s reached edge) = along m slot n (narrowed_reached m reached) (edge_on m slot n edge)
 
   -- what stands at a place came from the node there
-  pub came_from : (n : ℕ) (node : Node) → slice_get nodes n ≡ Some node → (before : Node) × (slice_get graph.nodes n ≡ Some before) × (narrowed_node (are.shifts n) are.wanted before ≡ node)
-  came_from n node e = let from = mapped_from (narrowed_node (are.shifts n) are.wanted) (slice_get graph.nodes n) node (sym (are.nodes_are n) ∙ e) in (from.0, from.1, from.2)
+  pub came_from : (n : ℕ) (node : Node) → slice_get nodes n ≡ Some node → (before : Node) × (slice_get graph.nodes n ≡ Some before) × (narrowed_node asked (are.shifts n) are.wanted before ≡ node)
+  came_from n node e = let from = mapped_from (narrowed_node asked (are.shifts n) are.wanted) (slice_get graph.nodes n) node (sym (are.nodes_are n) ∙ e) in (from.0, from.1, from.2)
 
   pub narrowed_calls : (called count : ℕ) → NodesCall nodes called count → NodesCall graph.nodes called count
   narrowed_calls called count c =
       let from = came_from c.number c.node c.here in
-      record { number = c.number; node = from.0; here = from.1; calls = sym (stays_call (are.shifts c.number) are.wanted from.0) ∙ ap node_call from.2 ∙ c.calls }
+      record { number = c.number; node = from.0; here = from.1; calls = sym (stays_call asked (are.shifts c.number) are.wanted from.0) ∙ ap node_call from.2 ∙ c.calls }
 
   -- ---- splitness: the edges are the same, and Skips stay
 
@@ -219,7 +238,7 @@ module _ (graph : GraphShape) (nodes : List Node) (are : AreNarrowed graph nodes
   narrowed_preds s = ap (preds_among s) narrowed_edges
 
   skip_stays : (n s : ℕ) → slice_get graph.nodes n ≡ Some (Skip s) → slice_get nodes n ≡ Some (Skip s)
-  skip_stays n s here = are.nodes_are n ∙ ap (option_map (narrowed_node (are.shifts n) are.wanted)) here
+  skip_stays n s here = are.nodes_are n ∙ ap (option_map (narrowed_node asked (are.shifts n) are.wanted)) here
 
   pub narrowed_split : IsSplit graph.nodes → IsSplit nodes
   narrowed_split split = record {
@@ -234,7 +253,7 @@ module _ (graph : GraphShape) (nodes : List Node) (are : AreNarrowed graph nodes
   division_on : (n x : ℕ) (op : Op) (left right : Operand) → DividesOf graph.nodes n x op left right → DividesOf nodes n x op left right
   division_on n x op left right at = record {
     next = at.next;
-    is = are.nodes_are n ∙ ap (option_map (narrowed_node (are.shifts n) are.wanted)) at.is ∙ ap Some (division_stays (are.shifts n) are.wanted x op left right at.next at.may_trap);
+    is = are.nodes_are n ∙ ap (option_map (narrowed_node asked (are.shifts n) are.wanted)) at.is ∙ ap Some (division_stays asked (are.shifts n) are.wanted x op left right at.next at.may_trap);
     may_trap = at.may_trap;
   }
 
@@ -262,12 +281,12 @@ module _ (graph : GraphShape) (nodes : List Node) (are : AreNarrowed graph nodes
         let lt = slice_get_within graph.nodes n from.0 from.1 in
         let path = reached_trace graph.nodes n (reached n lt) in
         subst (λ x. AllBelow (length graph.vars) (node_vars x)) from.2
-        (narrowed_below (are.shifts n) are.wanted (length graph.vars) (source_low n path.0 path.1) from.0 (can.below n from.0 from.1))
+        (narrowed_below asked (are.shifts n) are.wanted (length graph.vars) (source_low n path.0 path.1) from.0 (can.below n from.0 from.1))
 
     pub narrowed_can_make : AllReached graph.nodes → CanMake graph.vars graph.received nodes
     narrowed_can_make reached = record {
-      start = (can.start.0, are.nodes_are 0 ∙ ap (option_map (narrowed_node (are.shifts 0) are.wanted)) can.start.1);
-      only = λ n s here. let from = came_from n (Start s) here in can.only n s (from.1 ∙ ap Some (narrowed_start (are.shifts n) are.wanted from.0 s from.2));
+      start = (can.start.0, are.nodes_are 0 ∙ ap (option_map (narrowed_node asked (are.shifts 0) are.wanted)) can.start.1);
+      only = λ n s here. let from = came_from n (Start s) here in can.only n s (from.1 ∙ ap Some (narrowed_start asked (are.shifts n) are.wanted from.0 s from.2));
       succs = λ m slot s edge. let low = can.succs m slot s (edge_back m slot s edge) in (low.0, subst (λ n. s < n) (sym narrowed_length) low.1);
       below = vars_below reached;
       received_below = can.received_below;

@@ -3,8 +3,8 @@ use Rattle.std.proofs.Common.{◌≡◌, ◌≢◌, ◌↔◌, inl, inr, ℕ, ze
 use Rattle.std.proofs.lemmas.Option.{same_Some, slice_get-get_or, slice_get_within}
 use Rattle.key_table.specs.Keys.{IsWithSome}
 use Rattle.key_table.specs.KeyLaws.{place_of, put_keeps, put_only, put_stays, put_there}
-use Rattle.path_laws.specs.Gathered.{TakesKeys}
-use Rattle.path_laws.specs.KeyRows.{HasKey, key_in}
+use Rattle.key_rows.specs.Gathered.{TakesKeys}
+use Rattle.key_rows.specs.KeyRows.{HasKey, key_in}
 use Rattle.mir_base.specs.declared.instructions.Operand.TheVariants.{Var, Const}
 use Rattle.mir_base.specs.declared.instructions.Rhs.{Rhs}
 use Rattle.mir_base.specs.declared.operators.Op.{Op}

@@ -70,16 +70,16 @@ abbrev pub AreFew : List ℕ → Type 0
 AreFew [] = Unit {0}
 AreFew (x ∷ xs) = (x ≤ 64) × AreFew xs
 
--- by place
+-- the number at each place is at most 64
 abbrev pub HasFew : List ℕ → Type 0
 HasFew xs = (x : ℕ) → slice_index_or xs x 0 ≤ 64
 
--- one way
+-- numbers that are few at each place are few
 pub few_each : (xs : List ℕ) → HasFew xs → AreFew xs
 few_each [] few = tt
 few_each (x ∷ xs) few = (few 0, few_each xs (λ i. few (suc i)))
 
--- the greater ones
+-- at each place the greater of two numbers
 abbrev pub joined_bits : List ℕ → List ℕ → List ℕ
 joined_bits [] ys = []
 joined_bits (x ∷ xs) [] = x ∷ xs

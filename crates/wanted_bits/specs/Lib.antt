@@ -1,11 +1,14 @@
 pub mod Agreement
 pub mod AgreementLaws
 pub mod Wanted
+pub mod Asking
 pub mod Narrowed
 pub mod MostRemoved
 pub mod MoreWanted
 pub mod BitsOrder
+pub mod JoinedBits
 pub mod Walking
+pub mod GlobalNumbers
 pub mod WalkLaws
 pub mod WantedNet
 pub mod WantedNetLaws
@@ -15,4 +18,12 @@ pub mod SameShifts
 pub mod Rows
 pub mod WantedFlows
 pub mod Found
+pub mod Asks
+pub mod Before
+pub mod Chains
+pub mod ChainLaws
+pub mod RunsAgree
+pub mod Made
 pub mod NarrowedLaws
+pub mod NarrowedValues
+pub mod NarrowedSteps

@@ -1,5 +1,5 @@
 -- The graph in which no bits are computed that are not wanted. Cited by contracts.
-use Rattle.std.specs.Prelude.{◌≡◌, ◌<◌, ◌↔◌, length, ℕ, ◌-◌, ◌^◌, Bool, false, not, ◌&&◌, ◌||◌, nat_eq, if◌then◌else◌, List, slice_get, Option, Some, None, option_map}
+use Rattle.std.specs.Prelude.{◌≡◌, ◌<◌, ◌↔◌, length, ℕ, suc, ◌-◌, ◌^◌, pos, Bool, false, not, ◌&&◌, ◌||◌, nat_eq, if◌then◌else◌, List, [], ◌∷◌, slice_get, Option, Some, None, option_map}
 use Rattle.mir_base.specs.declared.operators.Op.{Op}
 use Rattle.mir_base.specs.declared.operators.Op.TheVariants.{Add, Sub, And, Or, Xor}
 use Rattle.mir_base.specs.declared.instructions.Operand.{Operand}
@@ -15,7 +15,7 @@ use Rattle.flow_graph.specs.Graphs.{GraphShape}
 use Rattle.wanted_bits.specs.Shifts.{IsShiftedAt}
 use Rattle.wanted_bits.specs.Agreement.{low_bits}
 use Rattle.wanted_bits.specs.declared.table.Shift.{Shift}
-use Rattle.wanted_bits.specs.Wanted.{AreLeastWanted, AreShifts, AreWanted, is_undone, shifted_back}
+use Rattle.wanted_bits.specs.Wanted.{AreLeastWantedBy, AreShifts, AreWantedBy, Asked, all_asked, is_undone, shifted_back}
 
 -- the operand is a constant whose k lowest bits are all 0
 abbrev pub has_zeros : ℕ → Operand → Bool
@@ -78,28 +78,40 @@ narrowed_assign shifts x rhs next k =
     if goes x rhs (narrowed_rhs shifts rhs k) k then Skip next
     else Assign x (narrowed_rhs shifts rhs k) next
 
--- what a node becomes
-abbrev pub narrowed_node : (ℕ → Option Shift) → (ℕ → ℕ → ℕ) → Node → Node
-narrowed_node shifts wanted (Start next) = Start next
-narrowed_node shifts wanted (Skip next) = Skip next
-narrowed_node shifts wanted (Assign x rhs next) = narrowed_assign shifts x rhs next (wanted next x)
-narrowed_node shifts wanted (Print a next) = Print a next
-narrowed_node shifts wanted (Guard test number next) = Guard test number next
-narrowed_node shifts wanted (Call into unit operands next) = Call into unit operands next
-narrowed_node shifts wanted (Test test taken other) = Test test taken other
-narrowed_node shifts wanted (Return a) = Return a
+-- an operand that is handed over, of which so many bits are asked for: 0 where none is
+abbrev pub handed : ℕ → Operand → Operand
+handed k a = if nat_eq k 0 then Const (pos 0) else a
 
--- these are what the nodes become by shifts that hold and bits that are wanted
-pub record AreNarrowed (graph : GraphShape) (nodes : List Node) : Type 0 where
+-- the arguments from number i on, of which so many bits each are asked for
+abbrev pub all_handed : (ℕ → ℕ) → ℕ → List Operand → List Operand
+all_handed widths i [] = []
+all_handed widths i (a ∷ operands) = handed (widths i) a ∷ all_handed widths (suc i) operands
+
+-- what a node becomes
+abbrev pub narrowed_node : Asked → (ℕ → Option Shift) → (ℕ → ℕ → ℕ) → Node → Node
+narrowed_node asked shifts wanted (Start next) = Start next
+narrowed_node asked shifts wanted (Skip next) = Skip next
+narrowed_node asked shifts wanted (Assign x rhs next) =
+    narrowed_assign shifts x rhs next (wanted next x)
+narrowed_node asked shifts wanted (Print a next) = Print a next
+narrowed_node asked shifts wanted (Guard test number next) = Guard test number next
+narrowed_node asked shifts wanted (Call into unit operands next) =
+    Call into unit (all_handed (asked.arguments unit) 0 operands) next
+narrowed_node asked shifts wanted (Test test taken other) = Test test taken other
+narrowed_node asked shifts wanted (Return a) = Return (handed asked.result a)
+
+-- these are what the nodes become by shifts that hold and bits that are wanted, where so many are asked for around
+pub record AreNarrowed (asked : Asked) (graph : GraphShape) (nodes : List Node) : Type 0 where
   pub shifts : ℕ → ℕ → Option Shift
   pub wanted : ℕ → ℕ → ℕ
   pub shifts_hold : AreShifts graph shifts
-  pub are_wanted : AreWanted graph shifts wanted
+  pub are_wanted : AreWantedBy asked graph shifts wanted
   pub nodes_are : (n : ℕ) → slice_get nodes n
-      ≡ option_map (narrowed_node (shifts n) wanted) (slice_get graph.nodes n)
+      ≡ option_map (narrowed_node asked (shifts n) wanted) (slice_get graph.nodes n)
 
--- the graph with what its nodes become by the shifts that hold at each node and the least wanted bits
-pub record IsNarrowed (graph narrowed : GraphShape) : Type 0 where
+-- the graph with what its nodes become by the shifts that hold at each node and the least wanted bits, where so many
+-- are asked for around the unit
+pub record IsNarrowedBy (asked : Asked) (graph narrowed : GraphShape) : Type 0 where
   pub name_is : narrowed.name ≡ graph.name
   pub shared_is : narrowed.shared ≡ graph.shared
   pub vars_are : narrowed.vars ≡ graph.vars
@@ -108,14 +120,23 @@ pub record IsNarrowed (graph narrowed : GraphShape) : Type 0 where
   pub wanted : ℕ → ℕ → ℕ
   pub shifts_are : (n t : ℕ) (shift : Shift) → n < length graph.nodes
       → (shifts n t ≡ Some shift) ↔ IsShiftedAt graph t shift n
-  pub least : AreLeastWanted graph shifts wanted
+  pub least : AreLeastWantedBy asked graph shifts wanted
   pub nodes_are : (n : ℕ) → slice_get narrowed.nodes n
-      ≡ option_map (narrowed_node (shifts n) wanted) (slice_get graph.nodes n)
+      ≡ option_map (narrowed_node asked (shifts n) wanted) (slice_get graph.nodes n)
+
+-- where all bits are asked for
+abbrev pub IsNarrowed : GraphShape → GraphShape → Type 0
+IsNarrowed = IsNarrowedBy all_asked
 
 -- a split graph stays split
 abbrev pub NarrowedStaysSplit : GraphShape → GraphShape → Type 0
 NarrowedStaysSplit graph narrowed = IsSplit graph.nodes → IsSplit narrowed.nodes
 
 -- no other graph is the narrowed one
+abbrev pub IsOnlyNarrowedBy : Asked → GraphShape → GraphShape → Type 0
+IsOnlyNarrowedBy asked graph narrowed =
+    (other : GraphShape) → IsNarrowedBy asked graph other → other ≡ narrowed
+
+-- where all bits are asked for
 abbrev pub IsOnlyNarrowed : GraphShape → GraphShape → Type 0
-IsOnlyNarrowed graph narrowed = (other : GraphShape) → IsNarrowed graph other → other ≡ narrowed
+IsOnlyNarrowed = IsOnlyNarrowedBy all_asked

@@ -3,7 +3,7 @@ use Rattle.std.specs.Prelude.{◌≡◌, ℕ, ◌<◌, Bool, true, false, nat_eq
 use Rattle.bit_rows.specs.Bits.{row_bit, row_of}
 use Rattle.flow_graph.specs.declared.nodes.Node.{Node}
 use Rattle.flow_graph.specs.Graphs.{GraphShape}
-use Rattle.path_laws.specs.KeyRows.{AreKeyRows, AreKeyRowsWhere}
+use Rattle.key_rows.specs.KeyRows.{AreKeyRows, AreKeyRowsWhere}
 use Rattle.path_laws.specs.Paths.{AreRows}
 use Rattle.wanted_bits.specs.declared.held.HeldShifts.{HeldShifts}
 use Rattle.wanted_bits.specs.declared.rows.ShiftEnd.{ShiftEnd}

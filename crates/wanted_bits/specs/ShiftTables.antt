@@ -6,7 +6,7 @@ use Rattle.mir_base.specs.declared.instructions.Rhs.TheVariants.{Plain, Unary, B
 use Rattle.mir_base.specs.Numbers.{distance, wrapped}
 use Rattle.flow_graph.specs.declared.nodes.Node.{Node}
 use Rattle.flow_graph.specs.declared.nodes.Node.TheVariants.{Start, Skip, Assign, Print, Guard, Call, Test, Return}
-use Rattle.path_laws.specs.KeyRows.{HasKey}
+use Rattle.key_rows.specs.KeyRows.{HasKey}
 use Rattle.wanted_bits.specs.declared.table.VarShift.{VarShift}
 use Rattle.wanted_bits.specs.Shifts.{is_left_shift}
 

@@ -1,16 +1,17 @@
 -- The numbers of wanted bits through the nodes of a block, from the last to the first. Cited by contracts of private
 -- functions and by the ghost members of `WantedFlow`.
-use Rattle.std.specs.Prelude.{◌≡◌, ℕ, ◌-◌, ◌<◌, min, max, if◌then◌else◌, List, [], ◌∷◌, length, slice_get, slice_index_or, slice_set, Option, Some, None}
+use Rattle.std.specs.Prelude.{◌≡◌, ℕ, suc, ◌-◌, ◌<◌, min, max, Bool, false, nat_eq, if◌then◌else◌, List, [], ◌∷◌, length, slice_get, slice_index_or, slice_set, Option, Some, None}
 use Rattle.mir_base.specs.declared.operators.UnOp.TheVariants.{Neg, Not}
 use Rattle.mir_base.specs.declared.instructions.Operand.{Operand}
 use Rattle.mir_base.specs.declared.instructions.Operand.TheVariants.{Var, Const}
 use Rattle.mir_base.specs.declared.instructions.Rhs.{Rhs}
 use Rattle.mir_base.specs.declared.instructions.Rhs.TheVariants.{Plain, Unary, Binary}
 use Rattle.flow_graph.specs.declared.nodes.Node.{Node}
-use Rattle.flow_graph.specs.declared.nodes.Node.TheVariants.{Assign, Call}
+use Rattle.flow_graph.specs.declared.nodes.Node.TheVariants.{Assign, Call, Return}
+use Rattle.mir_base.specs.Frames.{shared_vars}
 use Rattle.flow_graph.specs.Graphs.{GraphShape, node_reads}
 use Rattle.wanted_bits.specs.declared.table.Shift.{Shift}
-use Rattle.wanted_bits.specs.Wanted.{if_any, is_undone, shifted_back, wanted_left, wanted_right}
+use Rattle.wanted_bits.specs.Wanted.{Asked, if_any, is_undone, shifted_back, wanted_left, wanted_right}
 
 -- the bits of x among these
 abbrev pub bits_at : List ℕ → ℕ → ℕ
@@ -42,10 +43,30 @@ raised_past bits (Some shift) rhs k = if is_undone shift k
     then raised_at bits shift.source (min k (64 - shift.distance))
     else raised_own (raised_at bits shift.source (min k (64 - shift.distance))) rhs k
 
--- all bits of these variables are wanted
-abbrev pub all_raised : List ℕ → List ℕ → List ℕ
-all_raised [] bits = bits
-all_raised (x ∷ xs) bits = all_raised xs (raised_at bits x 64)
+-- those of these variables, to at least so many each
+abbrev pub all_raised : (ℕ → ℕ) → List ℕ → List ℕ → List ℕ
+all_raised widths [] bits = bits
+all_raised widths (x ∷ xs) bits = all_raised widths xs (raised_at bits x (widths x))
+
+-- all 64 of each
+abbrev pub whole_width : ℕ → ℕ
+whole_width x = 64
+
+-- those of the arguments from number i on, to at least so many each
+abbrev pub among_raised : (ℕ → ℕ) → ℕ → List Operand → List ℕ → List ℕ
+among_raised widths i [] bits = bits
+among_raised widths i (a ∷ operands) bits =
+    among_raised widths (suc i) operands (raised_by bits a (widths i))
+
+-- the numbers of these variables are so many, whatever they were
+abbrev pub all_set : (ℕ → ℕ) → List ℕ → List ℕ → List ℕ
+all_set widths [] bits = bits
+all_set widths (x ∷ xs) bits = all_set widths xs (slice_set bits x (widths x))
+
+-- it is the variable, where there is one
+abbrev pub is_into : ℕ → Option ℕ → Bool
+is_into x None = false
+is_into x (Some y) = nat_eq x y
 
 -- no bit of the variable, where there is one, is wanted
 abbrev pub with_none : Option ℕ → List ℕ → List ℕ
@@ -65,23 +86,26 @@ assigned_bits (Assign y rhs next) bits = bits_at bits y
 assigned_bits node bits = 0
 
 -- the numbers before a node, whose right side shifts this back, where these are behind it
-abbrev pub bits_through : GraphShape → Option Shift → Node → List ℕ → List ℕ
-bits_through graph back (Assign y rhs next) bits =
+abbrev pub bits_through : GraphShape → Asked → Option Shift → Node → List ℕ → List ℕ
+bits_through graph asked back (Assign y rhs next) bits =
     raised_past (slice_set bits y 0) back rhs (bits_at bits y)
-bits_through graph back (Call into unit operands next) bits =
-    all_raised (node_reads graph (Call into unit operands next)) (with_none into bits)
-bits_through graph back node bits = all_raised (node_reads graph node) bits
+bits_through graph asked back (Call into unit operands next) bits =
+    among_raised (asked.arguments unit) 0 operands
+    (all_set (asked.globals unit) (shared_vars graph.shared) (with_none into bits))
+bits_through graph asked back (Return a) bits =
+    raised_by (all_raised asked.left (shared_vars graph.shared) bits) a asked.result
+bits_through graph asked back node bits = all_raised whole_width (node_reads graph node) bits
 
 -- before the node, where there is one
-abbrev pub bits_past : GraphShape → Option Shift → Option Node → List ℕ → List ℕ
-bits_past graph back None bits = bits
-bits_past graph back (Some node) bits = bits_through graph back node bits
+abbrev pub bits_past : GraphShape → Asked → Option Shift → Option Node → List ℕ → List ℕ
+bits_past graph asked back None bits = bits
+bits_past graph asked back (Some node) bits = bits_through graph asked back node bits
 
 -- before a list of nodes, of which each right side shifts back what this says of its node
-abbrev pub before_list : GraphShape → (ℕ → Option Shift) → List ℕ → List ℕ → List ℕ
-before_list graph back [] bits = bits
-before_list graph back (n ∷ list) bits =
-    bits_past graph (back n) (slice_get graph.nodes n) (before_list graph back list bits)
+abbrev pub before_list : GraphShape → Asked → (ℕ → Option Shift) → List ℕ → List ℕ → List ℕ
+before_list graph asked back [] bits = bits
+before_list graph asked back (n ∷ list) bits =
+    bits_past graph asked (back n) (slice_get graph.nodes n) (before_list graph asked back list bits)
 
 -- what a list says that the right side of a node shifts back
 abbrev pub back_in : List (Option Shift) → ℕ → Option Shift

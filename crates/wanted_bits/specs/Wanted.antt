@@ -1,6 +1,6 @@
 -- How many of the lowest bits of each variable are wanted before each node: the others change nothing that a run shows.
 -- Cited by contracts.
-use Rattle.std.specs.Prelude.{◌≡◌, ◌≢◌, ℕ, ◌+◌, ◌-◌, ◌<◌, ◌≤◌, ◌⊎◌, min, max, Bool, true, false, not, nat_eq, nat_lt, if◌then◌else◌, length, slice_get, Option, Some, None, ℤ}
+use Rattle.std.specs.Prelude.{◌≡◌, ◌≢◌, ℕ, suc, ◌+◌, ◌-◌, ◌<◌, ◌≤◌, ◌⊎◌, min, max, Bool, true, false, not, nat_eq, nat_lt, if◌then◌else◌, List, [], ◌∷◌, length, slice_get, Option, Some, None, ℤ}
 use Rattle.mir_base.specs.declared.operators.Op.{Op}
 use Rattle.mir_base.specs.declared.operators.Op.TheVariants.{Add, Sub, Mul, Div, Mod, Shl, Shr, Shra, And, Or, Xor}
 use Rattle.mir_base.specs.declared.operators.UnOp.TheVariants.{Neg, Not}
@@ -10,7 +10,7 @@ use Rattle.mir_base.specs.declared.instructions.Rhs.{Rhs}
 use Rattle.mir_base.specs.declared.instructions.Rhs.TheVariants.{Plain, Unary, Binary}
 use Rattle.mir_base.specs.Numbers.{wrapped, distance}
 use Rattle.flow_graph.specs.declared.nodes.Node.{Node}
-use Rattle.flow_graph.specs.declared.nodes.Node.TheVariants.{Assign}
+use Rattle.flow_graph.specs.declared.nodes.Node.TheVariants.{Assign, Call, Return}
 use Rattle.flow_graph.specs.Graphs.{GraphShape, IsEdge, assigns, node_reads}
 use Rattle.flow_graph.specs.Numbering.{is_in}
 use Rattle.wanted_bits.specs.declared.table.Shift.{Shift}
@@ -134,29 +134,67 @@ wanted_past (Some shift) rhs k x =
 abbrev pub wanted_rhs : (ℕ → Option Shift) → Rhs → ℕ → ℕ → ℕ
 wanted_rhs shifts rhs k x = wanted_past (shifted_back shifts rhs) rhs k x
 
+-- ---- around a unit
+
+-- How many bits are wanted around a unit: for each unit that it calls, of each global and of each argument where that
+-- is entered; and of each global that the unit itself hands back, and of its result
+pub record Asked : Type 0 where
+  pub globals : (unit x : ℕ) → ℕ
+  pub arguments : (unit i : ℕ) → ℕ
+  pub left : (x : ℕ) → ℕ
+  pub result : ℕ
+
+-- all 64, whatever stands around the unit
+abbrev pub all_asked : Asked
+all_asked = record {
+  globals = λ unit x. 64;
+  arguments = λ unit i. 64;
+  left = λ x. 64;
+  result = 64;
+}
+
+-- the bits of x among so many globals, of which so many each are wanted
+abbrev pub wanted_global : ℕ → (ℕ → ℕ) → ℕ → ℕ
+wanted_global shared widths x = if nat_lt x shared then widths x else 0
+
+-- among these arguments from number i on, of which so many each are wanted
+abbrev pub wanted_among : (ℕ → ℕ) → ℕ → List Operand → ℕ → ℕ
+wanted_among widths i [] x = 0
+wanted_among widths i (a ∷ operands) x =
+    max (wanted_of a (widths i) x) (wanted_among widths (suc i) operands x)
+
 -- ---- nodes
 
--- the bits of x that a node wants: an assignment by the bits that are wanted of its variable behind it, and any other
--- node all bits of what it reads
-abbrev pub wanted_at : GraphShape → (ℕ → Option Shift) → (ℕ → ℕ → ℕ) → Node → ℕ → ℕ
-wanted_at graph shifts wanted (Assign y rhs next) x = wanted_rhs shifts rhs (wanted next y) x
-wanted_at graph shifts wanted node x = if is_in x (node_reads graph node) then 64 else 0
+-- the bits of x that a node wants: an assignment by the bits that are wanted of its variable behind it, a call and a
+-- return by what is asked of what they hand over, and any other node all bits of what it reads
+abbrev pub wanted_at : GraphShape → Asked → (ℕ → Option Shift) → (ℕ → ℕ → ℕ) → Node → ℕ → ℕ
+wanted_at graph asked shifts wanted (Assign y rhs next) x = wanted_rhs shifts rhs (wanted next y) x
+wanted_at graph asked shifts wanted (Call into unit operands next) x =
+    max (wanted_global graph.shared (asked.globals unit) x)
+    (wanted_among (asked.arguments unit) 0 operands x)
+wanted_at graph asked shifts wanted (Return a) x =
+    max (wanted_global graph.shared asked.left x) (wanted_of a asked.result x)
+wanted_at graph asked shifts wanted node x = if is_in x (node_reads graph node) then 64 else 0
 
--- a number of bits for each node and variable: at most 64, at least what the node wants, and at least what is wanted
--- behind it, unless the node assigns the variable
-pub record AreWanted (graph : GraphShape) (shifts : ℕ → ℕ → Option Shift)
+-- a number of bits for each node and variable, where so many are asked for around the unit: at most 64, at least what
+-- the node wants, and at least what is wanted behind it, unless the node assigns the variable
+pub record AreWantedBy (asked : Asked) (graph : GraphShape) (shifts : ℕ → ℕ → Option Shift)
     (wanted : ℕ → ℕ → ℕ) : Type 0 where
   pub most : (n x : ℕ) → wanted n x ≤ 64
   pub here : (n x : ℕ) (node : Node) → slice_get graph.nodes n ≡ Some node
-      → wanted_at graph (shifts n) wanted node x ≤ wanted n x
+      → wanted_at graph asked (shifts n) wanted node x ≤ wanted n x
   pub behind : (n slot s x : ℕ) (node : Node) → slice_get graph.nodes n ≡ Some node
       → IsEdge graph.nodes n slot s
       → assigns graph x node ≡ false → wanted s x ≤ wanted n x
 
 -- the least such numbers
-pub record AreLeastWanted (graph : GraphShape) (shifts : ℕ → ℕ → Option Shift)
+pub record AreLeastWantedBy (asked : Asked) (graph : GraphShape) (shifts : ℕ → ℕ → Option Shift)
     (wanted : ℕ → ℕ → ℕ) : Type 0 where
-  pub are : AreWanted graph shifts wanted
-  pub least : (others : ℕ → ℕ → ℕ) → AreWanted graph shifts others
+  pub are : AreWantedBy asked graph shifts wanted
+  pub least : (others : ℕ → ℕ → ℕ) → AreWantedBy asked graph shifts others
       → (n x : ℕ) → n < length graph.nodes
       → x < length graph.vars → wanted n x ≤ others n x
+
+-- where all bits are asked for around the unit
+abbrev pub AreLeastWanted : GraphShape → (ℕ → ℕ → Option Shift) → (ℕ → ℕ → ℕ) → Type 0
+AreLeastWanted = AreLeastWantedBy all_asked

@@ -8,6 +8,7 @@ use Rattle.flow_graph.specs.FlowEdges.{edge_at}
 use Rattle.flow_graph.specs.Graphs.{GraphShape}
 use Rattle.flow_graph.specs.NumberTables.{number_at}
 use Rattle.wanted_bits.specs.declared.table.Shift.{Shift}
+use Rattle.wanted_bits.specs.Wanted.{Asked}
 use Rattle.wanted_bits.specs.Walking.{before_list}
 
 -- at most 64 of each
@@ -15,9 +16,9 @@ abbrev pub capped : List ℕ → List ℕ
 capped bits = map (min 64) bits
 
 -- the flow over these edges between the blocks: along an edge goes what is wanted before the block that it leaves
-abbrev pub wanted_net : GraphShape → (ℕ → Option Shift) → List (List ℕ) → List Edge → List ℕ
+abbrev pub wanted_net : GraphShape → Asked → (ℕ → Option Shift) → List (List ℕ) → List Edge → List ℕ
     → Net (List ℕ)
-wanted_net graph back lists edges firsts = record {
+wanted_net graph asked back lists edges firsts = record {
   nodes = length lists;
   edges = length edges;
   source = λ e. (edge_at edges e).source;
@@ -28,5 +29,5 @@ wanted_net graph back lists edges firsts = record {
   height = 65 * length graph.vars;
   first = λ b. replicate (length graph.vars) 0;
   transfer = λ e bits.
-      capped (before_list graph back (list_at lists (edge_at edges e).source) bits);
+      capped (before_list graph asked back (list_at lists (edge_at edges e).source) bits);
 }

@@ -13,6 +13,7 @@ use Rattle.flow_graph.specs.Graphs.{GraphShape}
 use Rattle.path_laws.specs.Between.{AreBetween}
 use Rattle.wanted_bits.specs.declared.table.Shift.{Shift}
 use Rattle.wanted_bits.specs.BitsOrder.{BelowLists, BelowNumber, HasFew, lists_rank, rank_most}
+use Rattle.wanted_bits.specs.Wanted.{Asked}
 use Rattle.wanted_bits.specs.Walking.{before_list, bits_at}
 use Rattle.wanted_bits.specs.WalkLaws.{FewerEach, list_long, list_more}
 use Rattle.wanted_bits.specs.WantedNet.{capped, wanted_net}
@@ -63,13 +64,13 @@ capped_same (x ∷ xs) few =
 pub capped_few : (xs : List ℕ) → HasFew (capped xs)
 capped_few xs x = omega (arith, capped_at xs x)
 
-module _ (graph : GraphShape) (back : ℕ → Option Shift) (lists : List (List ℕ)) (edges : List Edge) (firsts : List ℕ) where
+module _ (graph : GraphShape) (asked : Asked) (back : ℕ → Option Shift) (lists : List (List ℕ)) (edges : List Edge) (firsts : List ℕ) where
   -- ---- the laws of the flow
 
   edge_there : (e : ℕ) → e < length edges → slice_get edges e ≡ Some (edge_at edges e)
   edge_there e lt = slice_get-get_or edges e _ lt
 
-  pub wanted_laws : AreBetween true graph.nodes lists (length lists) edges firsts → NetLaws BelowLists length lists_rank (wanted_net graph back lists edges firsts)
+  pub wanted_laws : AreBetween true graph.nodes lists (length lists) edges firsts → NetLaws BelowLists length lists_rank (wanted_net graph asked back lists edges firsts)
   wanted_laws between = record {
     sources = λ e lt. between.source e (edge_at edges e) (edge_there e lt);
     targets = λ e lt. (between.sound e (edge_at edges e) (edge_there e lt)).within;
@@ -79,12 +80,12 @@ module _ (graph : GraphShape) (back : ℕ → Option Shift) (lists : List (List 
     from_start = λ e lt. (between.stands e (edge_at edges e) (edge_there e lt)).0;
     to_stop = λ e lt. (between.stands e (edge_at edges e) (edge_there e lt)).1;
     first_size = λ n lt. length-replicate (length graph.vars) 0;
-    transfer_size = λ e bits lt is. length-map (before_list graph back (list_at lists (edge_at edges e).source) bits) (min 64) ∙ list_long graph back (list_at lists (edge_at edges e).source) bits ∙ is;
+    transfer_size = λ e bits lt is. length-map (before_list graph asked back (list_at lists (edge_at edges e).source) bits) (min 64) ∙ list_long graph asked back (list_at lists (edge_at edges e).source) bits ∙ is;
     monotone = λ e xs ys lt is p.
         let list = list_at lists (edge_at edges e).source in
-        let more = list_more graph back list xs ys (pointwise_length BelowNumber xs ys p) (below_fewer xs ys p) in
-        fewer_below (capped (before_list graph back list xs)) (capped (before_list graph back list ys))
-        (length-map (before_list graph back list xs) (min 64) ∙ list_long graph back list xs ∙ pointwise_length BelowNumber xs ys p ∙ sym (list_long graph back list ys) ∙ sym (length-map (before_list graph back list ys) (min 64)))
-        (λ x. omega (arith, capped_at (before_list graph back list xs) x, capped_at (before_list graph back list ys) x, more x)) (capped_few (before_list graph back list ys));
+        let more = list_more graph asked back list xs ys (pointwise_length BelowNumber xs ys p) (below_fewer xs ys p) in
+        fewer_below (capped (before_list graph asked back list xs)) (capped (before_list graph asked back list ys))
+        (length-map (before_list graph asked back list xs) (min 64) ∙ list_long graph asked back list xs ∙ pointwise_length BelowNumber xs ys p ∙ sym (list_long graph asked back list ys) ∙ sym (length-map (before_list graph asked back list ys) (min 64)))
+        (λ x. omega (arith, capped_at (before_list graph asked back list xs) x, capped_at (before_list graph asked back list ys) x, more x)) (capped_few (before_list graph asked back list ys));
     ranks = λ xs is. omega (arith, rank_most xs, is);
   }

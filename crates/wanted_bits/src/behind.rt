@@ -1,11 +1,13 @@
 // How many bits are wanted of what each node assigns.
 ghost use Rattle.std.specs.Prelude.{◌≡◌, length, IfOk};
 ghost use Rattle.flow_graph.specs.Blocks.{IsBlock};
+ghost use Rattle.wanted_bits.specs.Asking.{asked_by};
 ghost use Rattle.wanted_bits.specs.BitsOrder.{HasFew};
 ghost use Rattle.wanted_bits.specs.Found.{AreBehind, NotesBlock};
 ghost use Rattle.wanted_bits.specs.Walking.{AreGraphNodes, back_in};
 ghost use Rattle.wanted_bits.specs.WantedFlows.{AreCrossed, AreLeastBehind};
 
+use crate::around::Around;
 use crate::lists::WantedList;
 use crate::solving::{Crossed, crossings, least};
 use crate::table::Shift;
@@ -20,30 +22,36 @@ use std::alloc::Global;
 pub(crate) fn behind(
     alloc: Global,
     graph: &Graph,
+    around: &Around<'_>,
     backs: &[Option<Shift>],
 ) -> Result<Vec<u8>, Memory>
     requires { length backs.now ≡ length graph.now.nodes }
-    ensures { IfOk result (λ behind. AreBehind graph.now backs.now behind.items) }
+    ensures { IfOk result (λ behind. AreBehind graph.now
+        (asked_by graph.now.shared around.now) backs.now behind.items) }
 {
     let _nodes = graph.nodes();
     let crossed = crossings(alloc, graph)?;
-    let work = least(alloc, graph, &crossed, backs)?;
-    let behind = note_all(alloc, graph, &crossed, backs, &work)?;
+    let work = least(alloc, graph, around, &crossed, backs)?;
+    let behind = note_all(alloc, graph, around, &crossed, backs, &work)?;
     Ok(behind)
 }
 
-/// The same by the numbers behind each block.
+/// The same, where `work` has the least numbers behind each block: each block is walked from its last node to its
+/// first.
 fn note_all(
     alloc: Global,
     graph: &Graph,
+    around: &Around<'_>,
     crossed: &Crossed,
     backs: &[Option<Shift>],
     work: &Work<WantedList>,
 ) -> Result<Vec<u8>, Memory>
     requires crossed { AreCrossed graph.now crossed.now }
     requires backs { length backs.now ≡ length graph.now.nodes }
-    requires least { AreLeastBehind graph.now crossed.now (back_in backs.now) work.now }
-    ensures { IfOk result (λ behind. AreBehind graph.now backs.now behind.items) }
+    requires least { AreLeastBehind graph.now
+        (asked_by graph.now.shared around.now) crossed.now (back_in backs.now) work.now }
+    ensures { IfOk result (λ behind. AreBehind graph.now
+        (asked_by graph.now.shared around.now) backs.now behind.items) }
 {
     let _nodes = graph.nodes();
     let mut behind = vec![in alloc; 0; graph.len()]?;
@@ -55,6 +63,7 @@ fn note_all(
             behind.as_mut_slice(),
             room.as_mut_slice(),
             graph,
+            around,
             backs,
             list,
         );
@@ -68,6 +77,7 @@ fn note_block(
     behind: &mut [u8],
     bits: &mut [u8],
     graph: &Graph,
+    around: &Around<'_>,
     backs: &[Option<Shift>],
     list: &[usize],
 )
@@ -77,7 +87,9 @@ fn note_block(
     requires backs { length backs.now ≡ length graph.now.nodes }
     requires block { IsBlock graph.now.nodes list.now }
     requires nodes { AreGraphNodes graph.now list.now }
-    ensures noted { NotesBlock graph.now (back_in backs.now) list.now bits.old
+    ensures few { HasFew behind.new }
+    ensures noted { NotesBlock graph.now (asked_by graph.now.shared around.now)
+        (back_in backs.now) list.now bits.old
         behind.old behind.new }
     ensures long { length bits.new ≡ length bits.old }
 {
@@ -85,6 +97,6 @@ fn note_block(
         let n = list[list.len() - 1 - count];
         let node = graph.node(n);
         behind[n] = assigned_bits(node, bits);
-        pass_back(bits, graph, node, backs[n]);
+        pass_back(bits, graph, around, node, backs[n]);
     }
 }

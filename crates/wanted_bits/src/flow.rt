@@ -3,11 +3,13 @@
 ghost use Rattle.std.specs.Prelude.{◌≡◌, ◌<◌, length};
 ghost use Rattle.node_list.specs.Lists.{list_at};
 ghost use Rattle.flow_graph.specs.FlowEdges.{edge_at};
+ghost use Rattle.wanted_bits.specs.Asking.{asked_by};
 ghost use Rattle.wanted_bits.specs.BitsOrder.{HasFew};
 ghost use Rattle.wanted_bits.specs.Walking.{back_in, before_list};
 ghost use Rattle.wanted_bits.specs.WantedFlows.{IsWantedFlow, flow_laws, wanted_net_of};
 ghost use Rattle.fix_solve.specs.NewsFlows.{untold_laws};
 
+use crate::around::Around;
 use crate::lists::{WantedList, raise_each};
 use crate::table::Shift;
 use crate::walking::walk_back;
@@ -26,6 +28,7 @@ pub(crate) struct WantedFlow<'a, L: Ledger> {
     pub(crate) blocks: &'a Blocks,
     pub(crate) between: &'a BlockEdges,
     pub(crate) backs: &'a [Option<Shift>],
+    pub(crate) around: &'a Around<'a>,
     pub(crate) ledger: PhantomData<L>,
 }
 
@@ -96,7 +99,9 @@ impl<'a, L: Ledger> WantedFlow<'a, L> {
         requires long { length room.old.items ≡ length behind.now }
         requires few { HasFew behind.now }
         ensures { room.new.items
-            ≡ before_list self.now.graph.now (back_in self.now.backs.now)
+            ≡ before_list self.now.graph.now
+            (asked_by self.now.graph.now.shared self.now.around.now)
+            (back_in self.now.backs.now)
             (list_at self.now.blocks.now.lists
             (edge_at self.now.between.now.edges.items number).source)
             behind.now }
@@ -104,6 +109,12 @@ impl<'a, L: Ledger> WantedFlow<'a, L> {
         room.copy_from_slice(behind);
         let edge = self.between.edges[number];
         let list = self.blocks.nodes(edge.source);
-        walk_back(room.as_mut_slice(), self.graph, self.backs, list);
+        walk_back(
+            room.as_mut_slice(),
+            self.graph,
+            self.around,
+            self.backs,
+            list,
+        );
     }
 }

@@ -2,7 +2,7 @@
 ghost use Rattle.std.specs.Prelude.{◌≡◌, ◌<◌, length, IfNone, IfOk, IfSome};
 ghost use Rattle.mir_base.specs.Shapes.{AllDiffer};
 ghost use Rattle.wanted_bits.specs.ShiftTables.{AreVarShifts, ShiftsAreInOrder, HasShifts, HasOnlyShifts};
-ghost use Rattle.path_laws.specs.KeyRows.{AreKeyRows};
+ghost use Rattle.key_rows.specs.KeyRows.{AreKeyRows};
 ghost use Rattle.wanted_bits.specs.Rows.{AreHeldShifts, AreShiftTargets, HaveNoneInCommon, IsFirstInCommon, CanLookUp, is_born_shift, has_ended, shift_at};
 
 use crate::rows::{ShiftEnd, born_rows, end_rows, ended_rows};

@@ -4,8 +4,8 @@ ghost use Rattle.wanted_bits.specs.ShiftTables.{shift_of};
 
 use crate::table::{VarShift, shift_of};
 use flow_graph::Node;
+use key_rows::KeyOf;
 use key_table::Key;
-use path_laws::KeyOf;
 
 impl Key for VarShift {
     ghost same = { same_shifts };

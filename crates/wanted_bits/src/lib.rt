@@ -7,7 +7,10 @@
 //! numbers of wanted bits, it does the same as the graph that goes in, and it evaluates no more operators.
 #![tactic(auto)]
 
+mod around;
+mod asks;
 mod backs;
+mod before;
 mod behind;
 mod flow;
 mod held;
@@ -20,6 +23,9 @@ mod table;
 mod walking;
 mod wanting;
 
+pub use around::{Around, Widths};
+pub use asks::asks_around;
+pub use before::wanted_before;
 pub use held::HeldShifts;
-pub use narrowing::narrow;
+pub use narrowing::{narrow, narrow_in};
 pub use table::{Shift, VarShift};

@@ -1,18 +1,23 @@
 // The graph in which no bits are computed that are not wanted.
-ghost use Rattle.std.specs.Prelude.{◌≡◌, ◌≤◌, length, IfOk};
+ghost use Rattle.std.specs.Prelude.{◌≡◌, ◌≤◌, [], length, IfOk};
 ghost use Rattle.flow_graph.specs.declared.nodes.Node.TheVariants.{Assign};
 ghost use Rattle.flow_graph.specs.Passes.{GraphDividesUnchanged, GraphKeeps};
 ghost use Rattle.wanted_bits.specs.BitsOrder.{HasFew};
 ghost use Rattle.wanted_bits.specs.Found.{AreFoundNodes, AreListed, narrowed_by};
+ghost use Rattle.wanted_bits.specs.Asking.{argument_at, asked_by};
+ghost use Rattle.wanted_bits.specs.Made.{IsMadeNarrowed};
 ghost use Rattle.wanted_bits.specs.MostRemoved.{RemovesMost};
-ghost use Rattle.wanted_bits.specs.Narrowed.{IsNarrowed, IsOnlyNarrowed, NarrowedStaysSplit, goes, is_itself};
+ghost use Rattle.wanted_bits.specs.RunsAgree.{RunsAgree};
+ghost use Rattle.wanted_bits.specs.Wanted.{all_asked};
+ghost use Rattle.wanted_bits.specs.Narrowed.{IsNarrowed, all_handed, handed, IsOnlyNarrowed, NarrowedStaysSplit, goes, is_itself};
 
+use crate::around::{Around, Widths};
 use crate::backs::backs;
 use crate::behind::behind;
 use crate::table::Shift;
 use crate::wanting::narrowed_past;
 use flow_graph::{Graph, Node};
-use mir_base::{Memory, Operand, Rhs, divides};
+use mir_base::{Args, Memory, Operand, Rhs, divides};
 use std::alloc::Global;
 
 /// The narrowed graph. Of each variable so many of its lowest bits are wanted before each node, the least numbers: all
@@ -36,6 +41,9 @@ pub fn narrow(alloc: Global, graph: &Graph) -> Result<Graph, Memory>
     // it has the name of the graph, does the same, evaluates no more operators, and makes no other calls
     ensures keeps { IfOk result (GraphKeeps graph.now) }
 
+    // along each run each variable agrees with what it was in the bits that are wanted
+    ensures agrees { IfOk result (RunsAgree graph.now) }
+
     // each dividing assignment stays as it is
     ensures divides { IfOk result (GraphDividesUnchanged graph.now) }
 
@@ -43,18 +51,47 @@ pub fn narrow(alloc: Global, graph: &Graph) -> Result<Graph, Memory>
     ensures split { IfOk result (NarrowedStaysSplit graph.now) }
 {
     let _nodes = graph.nodes();
-    let nodes = found_nodes(alloc, graph)?;
+    let whole = Widths::zeros(alloc, 0)?;
+    let narrowed = narrow_whole(alloc, graph, &whole)?;
+    Ok(narrowed)
+}
+
+/// The same, where this has no numbers.
+fn narrow_whole(alloc: Global, graph: &Graph, whole: &Widths) -> Result<Graph, Memory>
+    requires { whole.now ≡ [] }
+    ensures { IfOk result (IsMadeNarrowed all_asked graph.now) }
+{
+    let around = Around {
+        globals: &[],
+        arguments: &[],
+        back: whole,
+    };
+    let narrowed = narrow_in(alloc, graph, &around)?;
+    Ok(narrowed)
+}
+
+/// The narrowed graph of a unit, where so many bits are asked for around it: of what a call hands over as many are
+/// wanted as are asked for where that unit is entered, and of what the unit hands back as many as are asked for behind
+/// it. Beside what `narrow` says, an argument or a result of which no bit is asked for becomes 0.
+///
+/// It fails only with `Memory`.
+pub fn narrow_in(alloc: Global, graph: &Graph, around: &Around<'_>) -> Result<Graph, Memory>
+    ensures { IfOk result (IsMadeNarrowed (asked_by graph.now.shared around.now) graph.now) }
+{
+    let _nodes = graph.nodes();
+    let nodes = found_nodes(alloc, graph, around)?;
     let narrowed = graph.with_nodes(alloc, nodes)?;
     Ok(narrowed)
 }
 
 /// What the nodes become.
-fn found_nodes(alloc: Global, graph: &Graph) -> Result<Vec<Node>, Memory>
-    ensures { IfOk result (λ nodes. AreFoundNodes graph.now nodes.items) }
+fn found_nodes(alloc: Global, graph: &Graph, around: &Around<'_>) -> Result<Vec<Node>, Memory>
+    ensures { IfOk result (λ nodes. AreFoundNodes (asked_by graph.now.shared around.now)
+        graph.now nodes.items) }
 {
     let backs = backs(alloc, graph)?;
-    let behind = behind(alloc, graph, backs.as_slice())?;
-    let nodes = listed_nodes(alloc, graph, backs.as_slice(), behind.as_slice())?;
+    let behind = behind(alloc, graph, around, backs.as_slice())?;
+    let nodes = listed_nodes(alloc, graph, around, backs.as_slice(), behind.as_slice())?;
     Ok(nodes)
 }
 
@@ -62,29 +99,47 @@ fn found_nodes(alloc: Global, graph: &Graph) -> Result<Vec<Node>, Memory>
 fn listed_nodes(
     alloc: Global,
     graph: &Graph,
+    around: &Around<'_>,
     backs: &[Option<Shift>],
     behind: &[u8],
 ) -> Result<Vec<Node>, Memory>
     requires backs { length backs.now ≡ length graph.now.nodes }
     requires behind { length behind.now ≡ length graph.now.nodes }
     requires few { HasFew behind.now }
-    ensures { IfOk result (λ nodes. AreListed graph.now backs.now behind.now nodes.items) }
+    ensures { IfOk result (λ nodes. AreListed graph.now (asked_by graph.now.shared around.now)
+        backs.now behind.now nodes.items) }
 {
+    let shared = graph.shared();
     let mut nodes = Vec::with_capacity(alloc, graph.len())?;
     for n in 0..graph.len() {
-        let node = narrowed_by(graph.node(n), backs[n], behind[n])?;
+        let node = narrowed_by(alloc, graph.node(n), around, shared, backs[n], behind[n])?;
         nodes.push(node)?;
     }
     Ok(nodes)
 }
 
 /// What a node becomes, whose right side shifts this back, and of whose variable so many bits are wanted behind it.
-fn narrowed_by(node: &Node, back: Option<Shift>, k: u8) -> Result<Node, Memory>
+/// There are so many globals.
+fn narrowed_by(
+    alloc: Global,
+    node: &Node,
+    around: &Around<'_>,
+    shared: usize,
+    back: Option<Shift>,
+    k: u8,
+) -> Result<Node, Memory>
     requires { k ≤ 64 }
-    ensures { IfOk result (λ made. made ≡ narrowed_by back k node.now) }
+    ensures { IfOk result (λ made.
+        made ≡ narrowed_by (asked_by shared around.now) back k node.now) }
 {
     match node {
         Node::Assign(x, rhs, next) => Ok(narrowed_assign(*x, *rhs, *next, back, k)),
+        Node::Call(into, unit, args, next) => {
+            let operands = handed_over(alloc, around, *unit, args.items())?;
+            let args = Args::of(alloc, operands.as_slice())?;
+            Ok(Node::Call(*into, *unit, args, *next))
+        }
+        Node::Return(a) => Ok(Node::Return(handed(around.back.get(shared), *a))),
         _ => {
             let made = node.clone()?;
             Ok(made)
@@ -92,10 +147,34 @@ fn narrowed_by(node: &Node, back: Option<Shift>, k: u8) -> Result<Node, Memory>
     }
 }
 
+/// The arguments that a call of the unit hands over in the place of these.
+fn handed_over(
+    alloc: Global,
+    around: &Around<'_>,
+    unit: usize,
+    operands: &[Operand],
+) -> Result<Vec<Operand>, Memory>
+    ensures { IfOk result (λ made.
+        made.items ≡ all_handed (argument_at around.now unit) 0 operands.now) }
+{
+    let mut made = Vec::with_capacity(alloc, operands.len())?;
+    for i in 0..operands.len() {
+        made.push(handed(around.argument(unit, i), operands[i]))?;
+    }
+    Ok(made)
+}
+
+/// An operand that is handed over, of which so many bits are asked for: 0 where none is.
+fn handed(k: u8, a: Operand) -> Operand
+    ensures { result ≡ handed k a }
+{
+    if k == 0 { Operand::Const(0) } else { a }
+}
+
 /// What an assignment becomes.
 fn narrowed_assign(x: usize, rhs: Rhs, next: usize, back: Option<Shift>, k: u8) -> Node
     requires { k ≤ 64 }
-    ensures { result ≡ narrowed_by back k (Assign x rhs next) }
+    ensures { result ≡ narrowed_by all_asked back k (Assign x rhs next) }
 {
     let narrowed = narrowed_past(back, rhs, k);
     if goes(x, rhs, narrowed, k) {

@@ -1,6 +1,6 @@
 // Which shifts have a variable, and which a node is or ends.
 ghost use Rattle.std.specs.Prelude.{◌≡◌, length, IfOk};
-ghost use Rattle.path_laws.specs.KeyRows.{AreKeyRows};
+ghost use Rattle.key_rows.specs.KeyRows.{AreKeyRows};
 ghost use Rattle.wanted_bits.specs.ShiftTables.{AreVarShifts};
 ghost use Rattle.wanted_bits.specs.Rows.{AreShiftTargets, is_born_shift, has_ended, is_on_one_end, is_on_end, end_of};
 
@@ -8,9 +8,9 @@ use crate::keys::AsShift;
 use crate::table::VarShift;
 use bit_rows::Rows;
 use flow_graph::Graph;
+use key_rows::{assigned_rows, key_rows, mark_var};
 use key_table::KeyTable;
 use mir_base::Memory;
-use path_laws::{assigned_rows, key_rows, mark_var};
 use std::alloc::Global;
 
 // ---- by variables

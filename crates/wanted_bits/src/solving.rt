@@ -1,9 +1,11 @@
 // The least numbers of wanted bits behind the blocks of a graph.
 ghost use Rattle.std.specs.Prelude.{◌≡◌, ◌<◌, ◌^◌, true, length, IfOk};
 ghost use Rattle.flow_graph.specs.Blocks.{AreBlocksOf};
+ghost use Rattle.wanted_bits.specs.Asking.{asked_by};
 ghost use Rattle.wanted_bits.specs.Walking.{back_in};
 ghost use Rattle.wanted_bits.specs.WantedFlows.{AreCrossed, AreLeastBehind};
 
+use crate::around::Around;
 use crate::flow::WantedFlow;
 use crate::lists::WantedList;
 use crate::table::Shift;
@@ -36,18 +38,20 @@ pub(crate) fn crossings(alloc: Global, graph: &Graph) -> Result<Crossed, Memory>
 pub(crate) fn least(
     alloc: Global,
     graph: &Graph,
+    around: &Around<'_>,
     crossed: &Crossed,
     backs: &[Option<Shift>],
 ) -> Result<Work<WantedList>, Memory>
     requires crossed { AreCrossed graph.now crossed.now }
     requires backs { length backs.now ≡ length graph.now.nodes }
-    ensures { IfOk result (AreLeastBehind graph.now crossed.now (back_in backs.now)) }
+    ensures { IfOk result (AreLeastBehind graph.now
+        (asked_by graph.now.shared around.now) crossed.now (back_in backs.now)) }
 {
     // So many lists would find no memory.
     if graph.vars().len() >= MOST_VARS {
         return Err(AllocError);
     }
-    let work = least_from::<Brand>(alloc, graph, crossed, backs, Blank::new(1))?;
+    let work = least_from::<Brand>(alloc, graph, around, crossed, backs, Blank::new(1))?;
     Ok(work)
 }
 
@@ -58,6 +62,7 @@ const MOST_VARS: usize = 1 << 56;
 fn least_from<L: Ledger>(
     alloc: Global,
     graph: &Graph,
+    around: &Around<'_>,
     crossed: &Crossed,
     backs: &[Option<Shift>],
     blank: Blank,
@@ -68,7 +73,8 @@ fn least_from<L: Ledger>(
     requires crossed { AreCrossed graph.now crossed.now }
     requires backs { length backs.now ≡ length graph.now.nodes }
     requires few { length graph.now.vars < 2 ^ 56 }
-    ensures { IfOk result (AreLeastBehind graph.now crossed.now (back_in backs.now)) }
+    ensures { IfOk result (AreLeastBehind graph.now
+        (asked_by graph.now.shared around.now) crossed.now (back_in backs.now)) }
 {
     let _nodes = graph.nodes();
     let flow = WantedFlow {
@@ -76,6 +82,7 @@ fn least_from<L: Ledger>(
         blocks: &crossed.blocks,
         between: &crossed.between,
         backs,
+        around,
         ledger: PhantomData,
     };
     let mut steps = Steps::<L>::new(blank);

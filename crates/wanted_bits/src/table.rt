@@ -6,9 +6,9 @@ ghost use Rattle.wanted_bits.specs.ShiftTables.{ShiftsAreInOrder, AreVarShifts, 
 use crate::keys::AsShift;
 use crate::wanting::distance;
 use flow_graph::{Graph, Node};
+use key_rows::node_keys;
 use key_table::KeyTable;
 use mir_base::{Memory, Op, Operand, Rhs};
-use path_laws::node_keys;
 use std::alloc::Global;
 
 /// A variable, shifted to the left.

@@ -4,9 +4,11 @@ ghost use Rattle.std.specs.Prelude.{◌≡◌, ◌<◌, ◌≤◌, ◌+◌, leng
 ghost use Rattle.mir_base.specs.Frames.{shared_vars};
 ghost use Rattle.mir_base.specs.Shapes.{operand_vars, test_vars};
 ghost use Rattle.wanted_bits.specs.BitsOrder.{HasFew};
-ghost use Rattle.wanted_bits.specs.Walking.{HaveBacks, all_raised, assigned_bits, back_in, before_list, bits_at, bits_through, raised_at, raised_by, raised_own, raised_past, with_none};
+ghost use Rattle.wanted_bits.specs.Asking.{argument_at, asked_by, global_at, width_at};
+ghost use Rattle.wanted_bits.specs.Walking.{HaveBacks, all_raised, all_set, among_raised, whole_width, assigned_bits, back_in, before_list, bits_at, bits_through, raised_at, raised_by, raised_own, raised_past, with_none};
 ghost use Rattle.wanted_bits.specs.Walking.{AreGraphNodes};
 
+use crate::around::Around;
 use crate::table::Shift;
 use crate::wanting::{if_any, is_undone, wanted_left, wanted_right};
 use flow_graph::{Graph, Node};
@@ -14,22 +16,36 @@ use mir_base::{Operand, Rhs, Test, UnOp};
 
 /// Leaves the numbers before a list of nodes, each of which leads to the next, in the place of those behind it. Each
 /// right side shifts back what `backs` has for its node.
-pub(crate) fn walk_back(bits: &mut [u8], graph: &Graph, backs: &[Option<Shift>], list: &[usize])
+pub(crate) fn walk_back(
+    bits: &mut [u8],
+    graph: &Graph,
+    around: &Around<'_>,
+    backs: &[Option<Shift>],
+    list: &[usize],
+)
     requires few { HasFew bits.old }
     requires backs { length backs.now ≡ length graph.now.nodes }
     requires nodes { AreGraphNodes graph.now list.now }
-    ensures { bits.new ≡ before_list graph.now (back_in backs.now) list.now bits.old }
+    ensures { bits.new ≡ before_list graph.now (asked_by graph.now.shared around.now)
+        (back_in backs.now) list.now bits.old }
 {
     for count in 0..list.len() {
         let n = list[list.len() - 1 - count];
-        pass_back(bits, graph, graph.node(n), backs[n]);
+        pass_back(bits, graph, around, graph.node(n), backs[n]);
     }
 }
 
 /// Leaves the numbers before a node, whose right side shifts this back, in the place of those behind it.
-pub(crate) fn pass_back(bits: &mut [u8], graph: &Graph, node: &Node, back: Option<Shift>)
+pub(crate) fn pass_back(
+    bits: &mut [u8],
+    graph: &Graph,
+    around: &Around<'_>,
+    node: &Node,
+    back: Option<Shift>,
+)
     requires { HasFew bits.old }
-    ensures { bits.new ≡ bits_through graph.now back node.now bits.old }
+    ensures { bits.new ≡ bits_through graph.now (asked_by graph.now.shared around.now) back
+        node.now bits.old }
 {
     match node {
         Node::Start(_) => (),
@@ -37,15 +53,15 @@ pub(crate) fn pass_back(bits: &mut [u8], graph: &Graph, node: &Node, back: Optio
         Node::Assign(x, rhs, _) => assign_back(bits, *x, *rhs, back),
         Node::Print(a, _) => read(bits, *a),
         Node::Guard(test, _, _) => read_test(bits, *test),
-        Node::Call(into, _, args, _) => {
+        Node::Call(into, unit, args, _) => {
             forget(bits, *into);
-            read_globals(bits, graph.shared());
-            read_all(bits, args.items());
+            enter_globals(bits, around, *unit, graph.shared());
+            enter_arguments(bits, around, *unit, args.items());
         }
         Node::Test(test, _, _) => read_test(bits, *test),
         Node::Return(a) => {
-            read_globals(bits, graph.shared());
-            read(bits, *a);
+            leave_globals(bits, around, graph.shared());
+            raise_by(bits, *a, around.back.get(graph.shared()));
         }
     }
 }
@@ -117,27 +133,36 @@ fn raise_by(bits: &mut [u8], a: Operand, k: u8)
 
 // ---- what is read
 
-/// All bits of the operands are wanted.
-fn read_all(bits: &mut [u8], operands: &[Operand])
-    ensures { bits.new ≡ all_raised (flat_map operand_vars operands.now) bits.old }
+/// Of the globals so many bits are wanted as where this unit is entered, whatever is wanted of them behind the call.
+fn enter_globals(bits: &mut [u8], around: &Around<'_>, unit: usize, shared: usize)
+    ensures { bits.new ≡ all_set (global_at around.now unit) (shared_vars shared) bits.old }
 {
-    for a in operands {
-        read(bits, *a);
+    for x in 0..shared {
+        put(bits, x, around.global(unit, x));
     }
 }
 
-/// All bits of the globals are wanted.
-fn read_globals(bits: &mut [u8], shared: usize)
-    ensures { bits.new ≡ all_raised (shared_vars shared) bits.old }
+/// Of the arguments so many bits are wanted as where this unit is entered.
+fn enter_arguments(bits: &mut [u8], around: &Around<'_>, unit: usize, operands: &[Operand])
+    ensures { bits.new ≡ among_raised (argument_at around.now unit) 0 operands.now bits.old }
+{
+    for i in 0..operands.len() {
+        raise_by(bits, operands[i], around.argument(unit, i));
+    }
+}
+
+/// Of the globals so many bits are wanted as behind the unit.
+fn leave_globals(bits: &mut [u8], around: &Around<'_>, shared: usize)
+    ensures { bits.new ≡ all_raised (width_at around.now.back.now) (shared_vars shared) bits.old }
 {
     for x in 0..shared {
-        raise_to(bits, x, 64);
+        raise_to(bits, x, around.back.get(x));
     }
 }
 
 /// All bits of what a test reads are wanted.
 fn read_test(bits: &mut [u8], test: Test)
-    ensures { bits.new ≡ all_raised (test_vars test) bits.old }
+    ensures { bits.new ≡ all_raised whole_width (test_vars test) bits.old }
 {
     match test {
         Test::Rel(_, a, b) => {
@@ -151,7 +176,7 @@ fn read_test(bits: &mut [u8], test: Test)
 
 /// All bits of an operand are wanted.
 fn read(bits: &mut [u8], a: Operand)
-    ensures { bits.new ≡ all_raised (operand_vars a) bits.old }
+    ensures { bits.new ≡ all_raised whole_width (operand_vars a) bits.old }
 {
     match a {
         Operand::Var(x) => raise_to(bits, x, 64),
@@ -162,7 +187,7 @@ fn read(bits: &mut [u8], a: Operand)
 // ---- one number
 
 /// The number of a variable.
-fn number_of(bits: &[u8], x: usize) -> u8
+pub(crate) fn number_of(bits: &[u8], x: usize) -> u8
     requires { HasFew bits.now }
     ensures value { result ≡ bits_at bits.now x }
     ensures most { result ≤ 64 }
@@ -193,7 +218,14 @@ fn forget(bits: &mut [u8], into: Option<usize>)
 fn clear(bits: &mut [u8], x: usize)
     ensures { bits.new ≡ slice_set bits.old x 0 }
 {
+    put(bits, x, 0);
+}
+
+/// So many bits of the variable are wanted.
+fn put(bits: &mut [u8], x: usize, k: u8)
+    ensures { bits.new ≡ slice_set bits.old x k }
+{
     if x < bits.len() {
-        bits[x] = 0;
+        bits[x] = k;
     }
 }

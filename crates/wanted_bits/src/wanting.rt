@@ -25,7 +25,7 @@ pub(crate) fn wanted_left(op: Op, b: Operand, k: u8) -> u8
     }
 }
 
-/// Of the right operand, where this is the left one.
+/// The bits that are wanted of the right operand, where this is the left one.
 pub(crate) fn wanted_right(op: Op, a: Operand, k: u8) -> u8
     requires { k ≤ 64 }
     ensures value { result ≡ wanted_right op a k }
@@ -40,7 +40,7 @@ pub(crate) fn wanted_right(op: Op, a: Operand, k: u8) -> u8
     }
 }
 
-/// So many bits, where any bit of the result is wanted.
+/// `bits` where some bit of the result is wanted, and else 0.
 pub(crate) fn if_any(k: u8, bits: u8) -> u8
     requires { bits ≤ 64 }
     ensures value { result ≡ if_any k bits }

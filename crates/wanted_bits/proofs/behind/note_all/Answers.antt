@@ -2,8 +2,10 @@ use Rattle.std.proofs.Common.{◌≡◌, ◌∙◌, ◌++◌, ◌+◌, ◌<◌, 
 use Rattle.std.proofs.lemmas.Option.{get_or_from_slice_get, slice_get-get_or, slice_get_within}
 use Rattle.fix_solve.specs.Net.{value_at}
 use Rattle.flow_graph.specs.Graphs.{IsGraph}
+use Rattle.wanted_bits.specs.Asking.{asked_by}
+use Rattle.wanted_bits.specs.WalkLaws.{asks_few}
 use Rattle.wanted_bits.specs.BitsOrder.{HasFew}
-use Rattle.wanted_bits.specs.Found.{NotesBlock}
+use Rattle.wanted_bits.specs.Found.{NotesBlock, noted_past}
 use Rattle.wanted_bits.specs.Walking.{back_in}
 use Rattle.wanted_bits.specs.WantedFlows.{net_over}
 use Rattle.wanted_bits.proofs.LeastNumbers.{bits_by, least_wanted, noted_behind}
@@ -24,7 +26,7 @@ module _ (c : After-note_block) where
   behind_written = written_back c.loop-block.behind.len c.note_block.new.behind c.loop-block.behind.items (c.note_block.ensures.noted.long ∙ ap length c.as_mut_slice.ensures.value) (sym c.loop-block.behind.ok.0)
 
   -- the numbers behind the block
-  values_are : c.as_mut_slice-in-loop-block.result.now ≡ value_at (net_over c.args.graph.now c.args.crossed.now (back_in c.args.backs.now)) c.args.work.now c.loop-block.block
+  values_are : c.as_mut_slice-in-loop-block.result.now ≡ value_at (net_over c.args.graph.now (asked_by c.args.graph.now.shared c.args.around.now) c.args.crossed.now (back_in c.args.backs.now)) c.args.work.now c.loop-block.block
   values_are =
       let lt : c.loop-block.block < length c.args.work.now = omega (arith, c.loop-block-test.true, c.len-block-end.ensures, c.requires.least.long) in
       c.as_mut_slice-in-loop-block.ensures.value ∙ c.copy_from_slice.ensures.items ∙ c.bits.ensures.numbers ∙ c.value.ensures
@@ -34,43 +36,46 @@ pub loop-block-preserved : goal.loop-block-preserved
 loop-block-preserved c =
     let after = (goal.at.loop-block-preserved c).After-note_block in
     let graph = c.args.graph.now in
+    let asked = asked_by graph.shared c.args.around.now in
     let back = back_in c.args.backs.now in
     let written = behind_written after in
     let room = c.copy_from_slice.new.self in
     let room_long = c.note_block.ensures.long ∙ ap length c.as_mut_slice-in-loop-block.ensures.value in
     let room_written = written_back room.len c.note_block.new.bits room.items room_long (sym room.ok.0) in
-    let values = value_at (net_over graph c.args.crossed.now back) c.args.work.now in
-    let notes : NotesBlock graph back c.nodes-list.result.now (values c.loop-block.block) c.loop-block.behind.items c.note_block.new.behind =
-    subst (λ l. NotesBlock graph back c.nodes-list.result.now (values c.loop-block.block) l c.note_block.new.behind) c.as_mut_slice.ensures.value
-    (subst (λ l. NotesBlock graph back c.nodes-list.result.now l c.as_mut_slice.result.now c.note_block.new.behind) (values_are after) c.note_block.ensures.noted) in
+    let values = value_at (net_over graph asked c.args.crossed.now back) c.args.work.now in
+    let notes : NotesBlock graph asked back c.nodes-list.result.now (values c.loop-block.block) c.loop-block.behind.items c.note_block.new.behind =
+    subst (λ l. NotesBlock graph asked back c.nodes-list.result.now (values c.loop-block.block) l c.note_block.new.behind) c.as_mut_slice.ensures.value
+    (subst (λ l. NotesBlock graph asked back c.nodes-list.result.now l c.as_mut_slice.result.now c.note_block.new.behind) (values_are after) c.note_block.ensures.noted) in
     record {
       long = ap length written ∙ notes.long ∙ c.loop-block.invariant.long;
       room = ap length room_written ∙ room_long ∙ omega (arith, c.copy_from_slice.ensures.len, room.ok.0, c.loop-block.room.ok.0, c.loop-block.invariant.room);
-      few = subst HasFew (sym written) notes.few;
-      noted = subst (NotesBelow graph back c.args.crossed.now.blocks.lists values (c.loop-block.block + 1)) (sym written)
-          (below_more graph back c.args.crossed.now.blocks.lists values c.requires.crossed.blocks.are c.loop-block.block c.nodes-list.result.now c.loop-block.behind.items c.note_block.new.behind c.nodes-list.ensures c.loop-block.invariant.noted notes);
+      few = subst HasFew (sym written) c.note_block.ensures.few;
+      noted = subst (NotesBelow (λ n. noted_past) 0 graph asked back c.args.crossed.now.blocks.lists values (c.loop-block.block + 1)) (sym written)
+          (below_more (λ n. noted_past) 0 graph asked back c.args.crossed.now.blocks.lists values c.requires.crossed.blocks.are c.loop-block.block c.nodes-list.result.now c.loop-block.behind.items c.note_block.new.behind c.nodes-list.ensures c.loop-block.invariant.noted notes);
     }
 
 pub returns : goal.returns
 returns c =
     let graph = c.args.graph.now in
+    let asked = asked_by graph.shared c.args.around.now in
     let back = back_in c.args.backs.now in
     let crossed = c.args.crossed.now in
+    let asks = asks_few graph.shared c.args.around.now in
     let is : IsGraph graph.vars graph.received graph.nodes = rw (← c.nodes-nodes.ensures.value) c.nodes-nodes.ensures.graph in
     let are = c.requires.crossed.blocks.are in
-    let values = value_at (net_over graph crossed back) c.args.work.now in
+    let values = value_at (net_over graph asked crossed back) c.args.work.now in
     let edges = crossed.between.edges.items in
     let firsts = crossed.between.firsts.items in
     record {
       long = c.loop-block.invariant.long;
       few = c.loop-block.invariant.few;
       are = λ shifts have. (
-        bits_by graph shifts back have is.can crossed.blocks.lists are edges firsts c.requires.crossed.between values,
-        least_wanted graph shifts back have is.can crossed.blocks.lists are edges firsts c.requires.crossed.between values c.requires.least.least,
+        bits_by graph asked asks shifts back have is.can crossed.blocks.lists are edges firsts c.requires.crossed.between values,
+        least_wanted graph asked asks shifts back have is.can crossed.blocks.lists are edges firsts c.requires.crossed.between values c.requires.least.least,
         λ n lt.
             let st = are.every n lt in
             let low = slice_get_within crossed.blocks.lists st.0 st.1.list st.1.listed in
             c.loop-block.invariant.noted.noted st.0 st.1.place n st.1.list (omega (arith, low, c.loop-block-test.false, c.len-block-end.ensures)) st.1.listed st.1.is
-            ∙ noted_behind graph shifts back have is.can crossed.blocks.lists are edges firsts c.requires.crossed.between values c.requires.least.least st.0 st.1.place n st.1.list st.1.listed st.1.is,
+            ∙ noted_behind graph asked asks shifts back have is.can crossed.blocks.lists are edges firsts c.requires.crossed.between values c.requires.least.least st.0 st.1.place n st.1.list st.1.listed st.1.is,
       );
     }

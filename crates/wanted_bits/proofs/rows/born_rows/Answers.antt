@@ -1,7 +1,7 @@
 use Rattle.std.proofs.Common.{List, length, subst}
 use Rattle.flow_graph.specs.declared.nodes.Node.{Node}
-use Rattle.path_laws.specs.KeyRows.{AreKeyRows, HasKey}
-use Rattle.path_laws.specs.KeyRowLaws.{by_test}
+use Rattle.key_rows.specs.KeyRows.{AreKeyRows, HasKey}
+use Rattle.key_rows.specs.KeyRowLaws.{by_test}
 use Rattle.wanted_bits.specs.Rows.{is_born_shift}
 use Rattle.wanted_bits.specs.ShiftTables.{shift_of}
 use Rattle.wanted_bits.proofs.Taking.{born_shift}

@@ -1,8 +1,8 @@
 use Rattle.std.proofs.Common.{◌≡◌, ◌∙◌, ◌<◌, ◌≤◌, ap, arith, ℕ, Bool, List, length, slice_get, subst, false, sym}
 use Rattle.flow_graph.specs.declared.nodes.Node.{Node}
 use Rattle.flow_graph.specs.Graphs.{GraphShape, HaveVarsBelow}
-use Rattle.path_laws.specs.KeyRows.{AreAssignedRows, AreKeyRows, any_assigned}
-use Rattle.path_laws.specs.KeyRowLaws.{assigned_keys, same_test}
+use Rattle.key_rows.specs.KeyRows.{AreAssignedRows, AreKeyRows, any_assigned}
+use Rattle.key_rows.specs.KeyRowLaws.{assigned_keys, same_test}
 use Rattle.path_laws.specs.Paths.{AreRows}
 use Rattle.wanted_bits.specs.declared.table.VarShift.{VarShift}
 use Rattle.wanted_bits.specs.Shifts.{assigns_one_of}

@@ -1,10 +1,11 @@
 use Rattle.std.proofs.Common.{◌≡◌, ◌-◌, drop, length}
+use Rattle.wanted_bits.specs.Asking.{asked_by}
 use Rattle.wanted_bits.specs.BitsOrder.{HasFew}
 use Rattle.wanted_bits.specs.Walking.{back_in, before_list}
 use Rattle.wanted_bits.proofs.walking.walk_back.Given as goal
 
 abbrev pub invariant-loop-count : goal.invariant-loop-count
 invariant-loop-count l = record {
-  bits : l.bits ≡ before_list l.graph (back_in l.backs) (drop (length l.list - l.count) l.list) l.initial.bits;
+  bits : l.bits ≡ before_list l.graph (asked_by l.graph.shared l.around) (back_in l.backs) (drop (length l.list - l.count) l.list) l.initial.bits;
   few : HasFew l.bits;
 }

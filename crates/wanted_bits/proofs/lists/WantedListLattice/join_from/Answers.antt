@@ -1,7 +1,8 @@
 use Rattle.std.proofs.Common.{◌≡◌, ◌∙◌, ◌++◌, drop, length, sym, ap, subst, take}
 use Rattle.fix_solve.specs.Order.{IsLeastUpper}
 use Rattle.wanted_bits.specs.BitsOrder.{BelowLists, HasFew, few_each, joined_bits, lists_join}
-use Rattle.wanted_bits.proofs.Raising.{joined_few, joined_long, written_back}
+use Rattle.wanted_bits.specs.JoinedBits.{joined_few, joined_long}
+use Rattle.wanted_bits.proofs.Raising.{written_back}
 use Rattle.wanted_bits.proofs.lists.WantedListLattice.join_from.Goals as goal
 use Rattle.wanted_bits.proofs.lists.WantedListLattice.join_from.Goals.{After-raise_each}
 

@@ -1,0 +1,13 @@
+use Rattle.program_wanted.specs.Stale.{FreshAreServed}
+use Rattle.program_wanted.specs.Sweeps.{IsProgress, demands_room}
+use Rattle.program_wanted.specs.Tables.{demands_of}
+use Rattle.program_wanted.proofs.demands.served.Given as goal
+
+abbrev pub invariant-loop-stale : goal.invariant-loop-stale
+invariant-loop-stale l = record {
+  progress : IsProgress l.graphs.items (demands_of l.tables);
+  fresh : FreshAreServed l.graphs.items (demands_of l.tables) l.stale.items;
+}
+
+abbrev pub decreases-loop-stale : goal.decreases-loop-stale
+decreases-loop-stale l = demands_room (demands_of l.tables)

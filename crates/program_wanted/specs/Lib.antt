@@ -1,0 +1,9 @@
+pub mod Demands
+pub mod Sweeps
+pub mod Calling
+pub mod Stale
+pub mod DemandStacks
+pub mod DemandLaws
+pub mod WantedPrograms
+pub mod WantedProgramLaws
+pub mod Tables

@@ -1,0 +1,54 @@
+-- The program in which no unit computes what no other needs of it. Cited by contracts.
+use Rattle.std.specs.Prelude.{◌≡◌, ℕ, List, length, slice_get, Some}
+use Rattle.mir_base.specs.Shapes.{ProgramShape, UnitShape}
+use Rattle.flow_graph.specs.Graphs.{GraphShape}
+use Rattle.flow_graph.specs.Lowered.{IsLowered}
+use Rattle.jump_clean.specs.Cleaned.{IsClean}
+use Rattle.program_pass.specs.PassPrograms.{AllPassed, IsPassedProgram, LoweredClean, PassRelation, PassedAt}
+use Rattle.wanted_bits.specs.Found.{AreFoundNodes}
+use Rattle.wanted_bits.specs.Narrowed.{IsNarrowedBy}
+use Rattle.program_wanted.specs.Demands.{AreLeastDemands, Demands, asked_at}
+
+-- the graph of a unit with clean jumps
+abbrev pub IsGraphOf : UnitShape → GraphShape → Type 0
+IsGraphOf unit graph = (lowered : GraphShape) × (IsLowered unit lowered × IsClean lowered graph)
+
+-- the graphs of the units
+pub record AreGraphsOf (units : List UnitShape) (graphs : List GraphShape) : Type 0 where
+  pub long : length graphs ≡ length units
+  pub are : (u : ℕ) (unit : UnitShape) (graph : GraphShape) → slice_get units u ≡ Some unit
+      → slice_get graphs u ≡ Some graph → IsGraphOf unit graph
+
+-- each graph is narrowed to what is asked for around its unit
+abbrev pub NarrowedTo : Demands → PassRelation
+NarrowedTo demands u graph narrowed = IsNarrowedBy (asked_at demands graph.shared u) graph narrowed
+
+-- each unit is lowered, cleaned, narrowed to what is asked for around it by the least demands, cleaned and laid out
+pub record IsWantedProgram (source target : ProgramShape) : Type 0 where
+  pub graphs : List GraphShape
+  pub are_graphs : AreGraphsOf source.units graphs
+  pub demands : Demands
+  pub least : AreLeastDemands graphs demands
+  pub passed : IsPassedProgram (NarrowedTo demands) source target
+
+-- ---- what the functions of this crate make
+
+-- the graphs of the units, with what they keep
+pub record AreFronts (units : List UnitShape) (graphs : List GraphShape) : Type 0 where
+  pub long : length graphs ≡ length units
+  pub are : (u : ℕ) (unit : UnitShape) (graph : GraphShape) → slice_get units u ≡ Some unit
+      → slice_get graphs u ≡ Some graph → (lowered : GraphShape) × LoweredClean unit lowered graph
+
+-- the graph in between: its nodes are what those of the graph become
+pub record NarrowsTo (demands : Demands) (u : ℕ) (graph middle : GraphShape) : Type 0 where
+  pub found : AreFoundNodes (asked_at demands graph.shared u) graph middle.nodes
+  pub shared : middle.shared ≡ graph.shared
+  pub received : middle.received ≡ graph.received
+
+-- what was made of the unit of this number
+abbrev pub WantedUnit : Demands → List UnitShape → ℕ → UnitShape → Type 0
+WantedUnit demands = PassedAt (NarrowedTo demands) (NarrowsTo demands)
+
+-- of all units
+abbrev pub WantedUnits : Demands → List UnitShape → List UnitShape → Type 0
+WantedUnits demands = AllPassed (NarrowedTo demands) (NarrowsTo demands)

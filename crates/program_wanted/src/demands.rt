@@ -1,0 +1,142 @@
+// The least numbers of bits that the units of a program ask of one another.
+ghost use Rattle.std.specs.Prelude.{◌≡◌, ◌<◌, length, IfOk, OnOk};
+ghost use Rattle.program_wanted.specs.Calling.{AreUnitCallers};
+ghost use Rattle.program_wanted.specs.Demands.{AreLeastDemands};
+ghost use Rattle.program_wanted.specs.Stale.{FreshAreServed};
+ghost use Rattle.program_wanted.specs.Sweeps.{FitTogether, IsAround, IsProgress, Sweeps};
+ghost use Rattle.program_wanted.specs.Tables.{demands_of};
+
+use crate::calling::{Callers, callers_of};
+use crate::serving::serve_stale;
+use crate::starting::first_demands;
+use flow_graph::Graph;
+use mir_base::Memory;
+use std::alloc::Global;
+use wanted_bits::{Around, Widths};
+
+/// What is asked for around each unit.
+#[derive(Drop)]
+pub(crate) struct Tables {
+    /// For each unit, how many bits are wanted of each global where it is entered.
+    pub(crate) globals: Vec<Widths>,
+    /// And of each of its arguments.
+    pub(crate) arguments: Vec<Widths>,
+    /// And of each global that it hands back, and of its result.
+    pub(crate) backs: Vec<Widths>,
+}
+
+/// What is asked for around a unit.
+pub(crate) fn around<'a>(tables: &'a Tables, unit: usize) -> Around<'a>
+    requires { unit < length tables.now.backs.items }
+    ensures { IsAround (demands_of tables.now) unit result }
+{
+    Around {
+        globals: tables.globals.as_slice(),
+        arguments: tables.arguments.as_slice(),
+        back: &tables.backs[unit],
+    }
+}
+
+/// The least demands that serve all units. Sweeps serve the units that may lack something, until one raises nothing.
+pub(crate) fn least_demands(alloc: Global, graphs: &Vec<Graph>) -> Result<Tables, Memory>
+    requires { FitTogether graphs.now.items }
+    ensures { IfOk result (λ tables. AreLeastDemands graphs.now.items (demands_of tables)) }
+{
+    let callers = callers_of(alloc, graphs)?;
+    let tables = first_demands(alloc, graphs)?;
+    let served = served(alloc, graphs, &callers, tables)?;
+    Ok(served)
+}
+
+/// These demands, raised until they serve all units.
+fn served(
+    alloc: Global,
+    graphs: &Vec<Graph>,
+    callers: &Vec<Callers>,
+    first: Tables,
+) -> Result<Tables, Memory>
+    requires fit { FitTogether graphs.now.items }
+    requires callers { AreUnitCallers graphs.now.items callers.now.items }
+    requires progress { IsProgress graphs.now.items (demands_of first) }
+    ensures { IfOk result (λ tables. AreLeastDemands graphs.now.items (demands_of tables)) }
+{
+    let mut tables = first;
+    let mut stale = vec![in alloc; true; graphs.len()]?;
+    loop {
+        let raised = sweep(alloc, graphs, callers, &mut tables, &mut stale)?;
+        if !raised {
+            return Ok(tables);
+        }
+    }
+}
+
+/// Serves the stale units, from the first to the last and back, and answers whether a number was raised.
+fn sweep(
+    alloc: Global,
+    graphs: &Vec<Graph>,
+    callers: &Vec<Callers>,
+    tables: &mut Tables,
+    stale: &mut Vec<bool>,
+) -> Result<bool, Memory>
+    requires fit { FitTogether graphs.now.items }
+    requires callers { AreUnitCallers graphs.now.items callers.now.items }
+    requires progress { IsProgress graphs.now.items (demands_of tables.old) }
+    requires fresh { FreshAreServed graphs.now.items (demands_of tables.old) stale.old.items }
+    ensures swept { IfOk result (λ raised.
+        Sweeps graphs.now.items (demands_of tables.old) (demands_of tables.new) raised) }
+    ensures fresh { OnOk result
+        (FreshAreServed graphs.now.items (demands_of tables.new) stale.new.items) }
+{
+    let down = sweep_down(alloc, graphs, callers, tables, stale)?;
+    let up = sweep_up(alloc, graphs, callers, tables, stale)?;
+    Ok(down | up)
+}
+
+/// From the first to the last.
+fn sweep_down(
+    alloc: Global,
+    graphs: &Vec<Graph>,
+    callers: &Vec<Callers>,
+    tables: &mut Tables,
+    stale: &mut Vec<bool>,
+) -> Result<bool, Memory>
+    requires fit { FitTogether graphs.now.items }
+    requires callers { AreUnitCallers graphs.now.items callers.now.items }
+    requires progress { IsProgress graphs.now.items (demands_of tables.old) }
+    requires fresh { FreshAreServed graphs.now.items (demands_of tables.old) stale.old.items }
+    ensures swept { IfOk result (λ raised.
+        Sweeps graphs.now.items (demands_of tables.old) (demands_of tables.new) raised) }
+    ensures fresh { OnOk result
+        (FreshAreServed graphs.now.items (demands_of tables.new) stale.new.items) }
+{
+    let mut raised = false;
+    for unit in 0..graphs.len() {
+        raised |= serve_stale(alloc, graphs, callers, tables, stale, unit)?;
+    }
+    Ok(raised)
+}
+
+/// From the last to the first.
+fn sweep_up(
+    alloc: Global,
+    graphs: &Vec<Graph>,
+    callers: &Vec<Callers>,
+    tables: &mut Tables,
+    stale: &mut Vec<bool>,
+) -> Result<bool, Memory>
+    requires fit { FitTogether graphs.now.items }
+    requires callers { AreUnitCallers graphs.now.items callers.now.items }
+    requires progress { IsProgress graphs.now.items (demands_of tables.old) }
+    requires fresh { FreshAreServed graphs.now.items (demands_of tables.old) stale.old.items }
+    ensures swept { IfOk result (λ raised.
+        Sweeps graphs.now.items (demands_of tables.old) (demands_of tables.new) raised) }
+    ensures fresh { OnOk result
+        (FreshAreServed graphs.now.items (demands_of tables.new) stale.new.items) }
+{
+    let mut raised = false;
+    for count in 0..graphs.len() {
+        let unit = graphs.len() - 1 - count;
+        raised |= serve_stale(alloc, graphs, callers, tables, stale, unit)?;
+    }
+    Ok(raised)
+}

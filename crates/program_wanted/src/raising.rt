@@ -1,0 +1,144 @@
+// What a unit asks for, and rows that are raised to it.
+ghost use Rattle.std.specs.Prelude.{◌≡◌, ◌≤◌, ◌<◌, ◌↔◌, false, length, map, slice_set, IfOk};
+ghost use Rattle.node_list.specs.Lists.{list_at};
+ghost use Rattle.wanted_bits.specs.BitsOrder.{joined_bits};
+ghost use Rattle.program_wanted.specs.Stale.{RaisedMarked};
+ghost use Rattle.mir_base.specs.Frames.{shared_vars};
+ghost use Rattle.program_wanted.specs.Sweeps.{AreUnitAsks, CallsFitRows, FitsRow, RaisesBacks, entry_at, with_call};
+ghost use Rattle.program_wanted.specs.Tables.{demands_of};
+ghost use Rattle.program_wanted.specs.Demands.{asked_at};
+ghost use Rattle.wanted_bits.specs.Asks.{AreAsks};
+
+use crate::demands::{Tables, around};
+use crate::serving::mark;
+use flow_graph::{Graph, Node};
+use mir_base::Memory;
+use std::alloc::Global;
+use wanted_bits::{Widths, asks_around};
+
+/// What a unit asks for.
+#[derive(Drop)]
+pub(crate) struct UnitAsks {
+    /// Of each global where it is entered.
+    pub(crate) globals: Widths,
+    /// Of each of its arguments.
+    pub(crate) arguments: Widths,
+    /// At each node that calls, of each global that the called unit hands back, and of its result.
+    pub(crate) calls: Vec<Option<Widths>>,
+}
+
+/// What a unit asks for, where so many bits are asked for around it.
+pub(crate) fn asks_of(
+    alloc: Global,
+    graph: &Graph,
+    tables: &Tables,
+    unit: usize,
+) -> Result<UnitAsks, Memory>
+    requires { unit < length tables.now.backs.items }
+    ensures { IfOk result (λ asks.
+        AreUnitAsks (asked_at (demands_of tables.now) graph.now.shared unit) graph.now asks) }
+{
+    let around = around(tables, unit);
+    let calls = asks_around(alloc, graph, &around)?;
+    let globals = entry_globals(alloc, calls.as_slice(), graph.shared())?;
+    let arguments = entry_arguments(alloc, calls.as_slice(), graph.received())?;
+    Ok(UnitAsks {
+        globals,
+        arguments,
+        calls,
+    })
+}
+
+/// What is asked for of each of so many globals where the unit is entered.
+fn entry_globals(alloc: Global, asks: &[Option<Widths>], shared: usize) -> Result<Widths, Memory>
+    ensures { IfOk result (λ widths. widths ≡ map (entry_at asks.now) (shared_vars shared)) }
+{
+    let mut widths = Widths::zeros(alloc, 0)?;
+    for x in 0..shared {
+        widths.push(entry_at(asks, x))?;
+    }
+    Ok(widths)
+}
+
+/// What is asked for of each argument.
+fn entry_arguments(
+    alloc: Global,
+    asks: &[Option<Widths>],
+    received: &[usize],
+) -> Result<Widths, Memory>
+    ensures { IfOk result (λ widths. widths ≡ map (entry_at asks.now) received.now) }
+{
+    let mut widths = Widths::zeros(alloc, 0)?;
+    for x in received {
+        widths.push(entry_at(asks, *x))?;
+    }
+    Ok(widths)
+}
+
+/// What is asked for of a variable where the unit is entered.
+fn entry_at(asks: &[Option<Widths>], x: usize) -> u8
+    ensures value { result ≡ entry_at asks.now x }
+    ensures most { result ≤ 64 }
+{
+    match asks.first() {
+        None => 64,
+        Some(None) => 64,
+        Some(Some(widths)) => widths.get(x),
+    }
+}
+
+/// Raises what is asked for of what units hand back to what the calls of a graph ask for, and answers whether a number
+/// was less. Each unit of which one was is stale then.
+pub(crate) fn raise_backs(
+    graph: &Graph,
+    asks: &[Option<Widths>],
+    backs: &mut Vec<Widths>,
+    stale: &mut Vec<bool>,
+) -> bool
+    requires { CallsFitRows graph.now asks.now backs.old.items }
+    ensures raises { RaisesBacks graph.now asks.now backs.old.items backs.new.items result }
+    ensures marked { RaisedMarked backs.old.items backs.new.items stale.old.items stale.new.items }
+{
+    let mut raised = false;
+    for n in 0..graph.len() {
+        raised |= raise_call(graph.node(n), &asks[n], backs, stale);
+    }
+    raised
+}
+
+/// Raises a row to what this node asks for, where it calls.
+fn raise_call(
+    node: &Node,
+    ask: &Option<Widths>,
+    backs: &mut Vec<Widths>,
+    stale: &mut Vec<bool>,
+) -> bool
+    requires { FitsRow node.now ask.now backs.old.items }
+    ensures raised { backs.new.items ≡ with_call node.now ask.now backs.old.items }
+    ensures unchanged { (result ≡ false) ↔ (backs.new.items ≡ backs.old.items) }
+    ensures marked { RaisedMarked backs.old.items backs.new.items stale.old.items stale.new.items }
+{
+    match node {
+        Node::Call(_, unit, _, _) => match ask {
+            Some(widths) => raise_row(*unit, widths, backs, stale),
+            None => false,
+        },
+        _ => false,
+    }
+}
+
+/// Raises the row of a unit to these.
+fn raise_row(unit: usize, ask: &Widths, backs: &mut Vec<Widths>, stale: &mut Vec<bool>) -> bool
+    requires there { unit < length backs.old.items }
+    requires long { length ask.now ≡ length (list_at backs.old.items unit) }
+    ensures raised { backs.new.items
+        ≡ slice_set backs.old.items unit (joined_bits (list_at backs.old.items unit) ask.now) }
+    ensures unchanged { (result ≡ false) ↔ (backs.new.items ≡ backs.old.items) }
+    ensures marked { RaisedMarked backs.old.items backs.new.items stale.old.items stale.new.items }
+{
+    let raised = backs[unit].raise_all(ask);
+    if raised {
+        mark(unit, stale);
+    }
+    raised
+}
