@@ -28,10 +28,10 @@ column_bits unit columns i division tell low =
     record {
       uses = has_bit _ _ tell.rows.sure.busy.uses columns.flow.uses i flow.uses_are busy.uses.shape low;
       kills = has_bit _ _ tell.rows.bounds.kills columns.flow.kills i flow.kills_are bounds.kills_are.shape low;
-      available = has_bit _ _ tell.rows.sure.busy.up columns.flow.available i flow.available_are busy.up.shape low;
+      available = has_bit _ _ tell.rows.sure.busy.available columns.flow.available i flow.available_are busy.available.shape low;
       anticipatable = has_bit _ _ tell.rows.bounds.anticipatable columns.flow.anticipatable i flow.anticipatable_are bounds.anticipatable_are.shape low;
-      sure = has_bit _ _ tell.rows.sure.busy.down columns.flow.sure i flow.sure_are busy.down.shape low;
-      earliest = has_bit _ _ tell.rows.sure.busy.early columns.delays.earliest i delays.earliest_are busy.early.shape low;
+      sure = has_bit _ _ tell.rows.sure.busy.anticipatable columns.flow.sure i flow.sure_are busy.anticipatable.shape low;
+      earliest = has_bit _ _ tell.rows.sure.busy.earliest columns.delays.earliest i delays.earliest_are busy.earliest.shape low;
       delayed = has_bit _ _ tell.rows.sure.late.delayed columns.delays.delayed i delays.delayed_are late.delayed.shape low;
       latest = has_bit _ _ tell.rows.sure.late.latest columns.delays.latest i delays.latest_are late.latest.shape low;
       isolated = has_bit _ _ tell.rows.sure.late.isolated columns.delays.isolated i delays.isolated_are late.isolated.shape low;

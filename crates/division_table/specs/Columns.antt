@@ -12,13 +12,13 @@ use Rattle.division_table.specs.declared.rows.SureRows.{SureRows}
 pub record AreFlowColumns (rows : DivisionRows) (columns : FlowColumns) : Type 0 where
   pub uses_are : columns.uses ≡ rows.sure.busy.uses
   pub kills_are : columns.kills ≡ rows.bounds.kills
-  pub available_are : columns.available ≡ rows.sure.busy.up
+  pub available_are : columns.available ≡ rows.sure.busy.available
   pub anticipatable_are : columns.anticipatable ≡ rows.bounds.anticipatable
-  pub sure_are : columns.sure ≡ rows.sure.busy.down
+  pub sure_are : columns.sure ≡ rows.sure.busy.anticipatable
 
 -- how far they can be delayed
 pub record AreDelayColumns (rows : SureRows) (columns : DelayColumns) : Type 0 where
-  pub earliest_are : columns.earliest ≡ rows.busy.early
+  pub earliest_are : columns.earliest ≡ rows.busy.earliest
   pub delayed_are : columns.delayed ≡ rows.late.delayed
   pub latest_are : columns.latest ≡ rows.late.latest
   pub isolated_are : columns.isolated ≡ rows.late.isolated

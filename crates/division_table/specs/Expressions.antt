@@ -53,7 +53,7 @@ delay_lines delays i =
     ++ bits_line delays.latest i (codes "latest")
     ++ bits_line delays.isolated i (codes "isolated")
 
--- the lazy placement of it, and the edges on which its temporary lives
+-- the lazy placement of expression i, and the edges on which its temporary is held
 abbrev pub placed_lines : PlacedColumns → ℕ → List ℕ
 placed_lines placed i =
     bits_line placed.inserted i (codes "inserted")

@@ -16,7 +16,7 @@ abbrev pub split_text : List (List ℕ) → MoveUnit → List ℕ
 split_text names unit =
     codes "pass split\n" ++ stage_text names (codes "split") unit.split ++ codes "pass divisions\n"
 
--- both
+-- the name of the unit and its graphs before divisions move
 abbrev pub front_text : List (List ℕ) → MoveUnit → List ℕ
 front_text names unit = start_text names unit ++ split_text names unit
 

@@ -85,8 +85,8 @@ fn flow_columns(alloc: Global, rows: &DivisionRows) -> Result<FlowColumns, Memor
     let busy = &rows.sure.busy;
     let bounds = &rows.bounds;
     let (uses, kills) = two_columns(alloc, &busy.uses, &bounds.kills)?;
-    let (available, anticipatable) = two_columns(alloc, &busy.up, &bounds.anticipatable)?;
-    let sure = Columns::of(alloc, &busy.down)?;
+    let (available, anticipatable) = two_columns(alloc, &busy.available, &bounds.anticipatable)?;
+    let sure = Columns::of(alloc, &busy.anticipatable)?;
     Ok(FlowColumns {
         uses,
         kills,
@@ -100,7 +100,7 @@ fn flow_columns(alloc: Global, rows: &DivisionRows) -> Result<FlowColumns, Memor
 fn delay_columns(alloc: Global, rows: &SureRows) -> Result<DelayColumns, Memory>
     ensures { IfOk result (AreDelayColumns rows.now) }
 {
-    let (earliest, delayed) = two_columns(alloc, &rows.busy.early, &rows.late.delayed)?;
+    let (earliest, delayed) = two_columns(alloc, &rows.busy.earliest, &rows.late.delayed)?;
     let (latest, isolated) = two_columns(alloc, &rows.late.latest, &rows.late.isolated)?;
     Ok(DelayColumns {
         earliest,

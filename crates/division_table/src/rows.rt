@@ -101,5 +101,5 @@ fn anticipatable_rows(alloc: Global, unit: &MoveUnit, edges: &Edges) -> Result<R
         (IsAnticipatable unit.now.split)) }
 {
     let busy = busy(alloc, &EveryPath, &unit.split, edges, &unit.table)?;
-    Ok(busy.down)
+    Ok(busy.anticipatable)
 }

@@ -115,7 +115,7 @@ module _ (globals : List (List ℕ)) (sources targets : List UnitShape) (program
       let m = kept_at n lt in
       names_at targets n ∙ ap (option_map (λ (u : UnitShape). u.name)) m.target_at ∙ ap Some m.kept.keeps.name ∙ sym (names_at sources n ∙ ap (option_map (λ (u : UnitShape). u.name)) m.source_at)
 
-  -- a name is that of a source
+  -- there are no more names of targets than sources
   within : (n : ℕ) → n < length (names_of targets) → n < length sources
   within n lt = omega (arith, lt, names_long targets, targets_long)
 

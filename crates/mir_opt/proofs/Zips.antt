@@ -28,14 +28,14 @@ module _ {A B : Type 0} (R : A → B → Type 0) where
   pub next_zip : (xs : List A) (ys ys' : List B) (n : ℕ) (x : A) (y : B) → AllZip R (take n xs) ys → slice_get xs n ≡ Some x → R x y → ys' ≡ ys ++ y ∷ [] → AllZip R (take (n + 1) xs) ys'
   next_zip xs ys ys' n x y z at r is = subst (AllZip R (take (n + 1) xs)) (sym is) (subst (λ l. AllZip R l (ys ++ y ∷ [])) (sym (ap (λ m. take m xs) (add-one n) ∙ take_next xs n x at)) (push_zip (take n xs) ys x y z r))
 
-  -- what is true of related items
+  -- where P holds of each item that R relates to another, it holds of all items of the second list
   pub zip_all : (P : B → Type 0) → ((x : A) (y : B) → R x y → P y) → (xs : List A) (ys : List B) → AllZip R xs ys → All P ys
   zip_all P holds [] [] z = All-nil P
   zip_all P holds [] (y ∷ ys) z = absurd z
   zip_all P holds (x ∷ xs) [] z = absurd z
   zip_all P holds (x ∷ xs) (y ∷ ys) z = All-cons P y ys (holds x y z.0) (zip_all P holds xs ys z.1)
 
-  -- what follows of related items
+  -- where Q follows from R, lists that are related by R item by item are related by Q
   pub zip_map : (Q : A → B → Type 0) → ((x : A) (y : B) → R x y → Q x y) → (xs : List A) (ys : List B) → AllZip R xs ys → AllZip Q xs ys
   zip_map Q holds [] [] z = tt
   zip_map Q holds [] (b ∷ ys) z = absurd z

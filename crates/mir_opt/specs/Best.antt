@@ -1,6 +1,6 @@
 -- That the code motion of a trail is the best: on no full path does an admissible placement evaluate an expression less
--- often; and that sinking leaves no more assignments on any, each round no more than any single step. Cited by
--- contracts.
+-- often; that sinking leaves no more assignments on any, each round no more than any single step; and that rounds at
+-- rest leave no more than any list of steps. Cited by contracts.
 use Rattle.std.specs.Prelude.{ℕ, List}
 use Rattle.mir_base.specs.declared.instructions.Expr.{Expr}
 use Rattle.graph_edit.specs.Along.{RunsFollow}
@@ -46,7 +46,8 @@ abbrev pub SinksNoMore : UnitTrail → Type 0
 SinksNoMore unit = HasNoMore unit.recopied (last_round unit.recopied unit.rounds.graphs)
 
 -- each round is the best of all single steps from the graph before it: none leaves fewer of a plain or movable
--- assignment on any full path; and where a round leaves the layout as it is, none leaves fewer than stand there, and no
--- list of steps from the graph before the rounds, of any length, leaves fewer than that round
+-- assignment on any full path, or lighter ones; and where a round leaves the layout as it is, none leaves fewer than
+-- stand there, and no list of steps from the graph before the rounds, of any length, leaves fewer than that round, or
+-- lighter ones
 abbrev pub RoundsAreBest : UnitTrail → Type 0
 RoundsAreBest unit = AreBestRounds unit.recopied unit.rounds.graphs

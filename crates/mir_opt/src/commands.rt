@@ -32,7 +32,9 @@ pub fn optimise(alloc: Global, program: &Program) -> Result<Trail, Memory>
     // On no full path the rounds of sinking together leave more of any plain or movable assignment.
     ensures sinks { IfOk result (λ trail. All SinksNoMore trail.units) }
 
-    // On no full path does a single step leave fewer of one than the round of sinking from the same graph.
+    // On no full path does a single step leave fewer of one than the round of sinking from the same graph. And where
+    // the rounds come to rest, no list of steps from the graph before them, of any length, leaves fewer of one on any
+    // full path than the last round does, or lighter ones.
     ensures rounds { IfOk result (λ trail. All RoundsAreBest trail.units) }
 
     // Each dividing instruction of the source that is reached is one of the target, with its variable and its operator,

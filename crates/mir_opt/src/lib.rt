@@ -9,9 +9,10 @@
 //! and is the only linked trail of its source, source and target are the same program, unit by unit and as a whole, the
 //! target evaluates no more operators and never has more frames, in each unit no admissible placement evaluates an
 //! expression less often on any full path than the one that was taken, and dividing instructions that are reached stay;
-//! of `optimise` also that sinking leaves no more assignments on any full path, and each round no more than any single
-//! step. `divisions` has a theorem of the same form, for the expressions that divide and their own rule. What is said of
-//! the target holds of the program of each stage, which `stage_program` makes.
+//! of `optimise` also that sinking leaves no more plain and movable assignments on any full path, each round no more
+//! than any single step, and the last round, where the rounds come to rest, no more than any list of steps. `divisions`
+//! has a theorem of the same form, for the expressions that divide and their own rule. What is said of the target holds
+//! of the program of each stage, which `stage_program` makes.
 #![tactic(auto)]
 
 mod back;
@@ -26,5 +27,5 @@ mod steps;
 mod trails;
 
 pub use commands::{divisions, motion, optimise, stage_program};
-pub use stages::{MoveStage, Stage, stages_of};
+pub use stages::{MoveStage, Stage, before_rounds, stages_of};
 pub use trails::{MoveTrail, MoveUnit, Trail, UnitTrail};

@@ -2,7 +2,7 @@
 ghost use Rattle.std.specs.Prelude.{◌≡◌, ◌++◌, IfOk, OnOk};
 ghost use Rattle.mir_base.specs.Appending.{AppendsOnOk};
 ghost use Rattle.sink_rounds.specs.RoundGraphs.{last_round};
-ghost use Rattle.mir_opt.specs.Stages.{after_rounds, first_rounds, graph_at, longest_rounds, move_graph_at, stage_name, stages_in};
+ghost use Rattle.mir_opt.specs.Stages.{after_rounds, before_rounds, first_rounds, graph_at, longest_rounds, move_graph_at, stage_name, stages_in};
 
 use crate::{MoveUnit, Trail, UnitTrail};
 use flow_graph::Graph;
@@ -56,6 +56,13 @@ const BEFORE_ROUNDS: [Stage; 8] = [
     Stage::Motion,
     Stage::CopiesAfterMotion,
 ];
+
+/// The stages before the rounds, in their order. It does not allocate.
+pub fn before_rounds() -> &'static [Stage]
+    ensures { result.now ≡ before_rounds }
+{
+    &BEFORE_ROUNDS
+}
 
 /// Appends the stages of so many rounds, from round 1 on.
 fn put_rounds(stages: &mut Vec<Stage>, rounds: usize) -> Result<(), Memory>

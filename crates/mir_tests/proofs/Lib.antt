@@ -1,2 +1,1 @@
 mod NewNames
-mod OneBlock

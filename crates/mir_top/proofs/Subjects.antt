@@ -62,13 +62,13 @@ tested number count n units true true least most is =
 tested number count n units true false least most is = absurd (cc)
 tested number count n units false few least most is = absurd (cc)
 
--- by the two numbers
+-- a trial that two words give has as many units as it may have: by cases on whether they are numbers
 with_numbers : (first second : Option ℕ) (n units : ℕ) → trial_with first second ≡ Some (Trial n units) → IsUnitCount units
 with_numbers None second n units is = absurd (cc)
 with_numbers (Some number) None n units is = absurd (cc)
 with_numbers (Some number) (Some count) n units is = tested number count n units (nat_le 1 count) (nat_le count most_units) refl refl is
 
--- by the words after `trial`
+-- the same, by how many words stand behind `trial`
 after_trial : (arguments : List (List ℕ)) (n units : ℕ) → trial_of arguments ≡ Some (Trial n units) → IsUnitCount units
 after_trial [] n units is = absurd (cc)
 after_trial (number ∷ []) n units is = absurd (cc)

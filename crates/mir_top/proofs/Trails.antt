@@ -94,7 +94,7 @@ pub record IsMotionOutput (trail : MoveTrail) (command : Command) (output : List
   pub of_ranges : command ≡ Ranges → MovesCode trail × ShowsRanges trail.units output
   pub of_divisions : command ≡ Divisions → Divides trail × IsWritten trail.target output
 
--- nothing is said of it whatever the command
+-- what is said of a move trail whatever the command: nothing
 abbrev pub IsAny : MoveTrail → Type 0
 IsAny trail = Unit {0}
 

@@ -6,7 +6,7 @@ use Rattle.program_pass.specs.PassPrograms.{IsOnly, KeepsRuns}
 use Rattle.program_turns.specs.Turns.{IsThorough, TurnsMake, turn}
 use Rattle.mir_top.specs.Outputs.{ComesToRest, TurnsThrough}
 
--- by the number of turns that may be made
+-- what turns make comes to rest: by induction on how many may be made
 comes_to_rest : (most : ℕ) (source target : ProgramShape) → TurnsMake most source target → ComesToRest most source target
 comes_to_rest zero source target made = record { count = 0; turns = made; few = omega arith; rests = λ fewer. absurd (omega (arith, fewer)) }
 comes_to_rest (suc more) source target made = elim made.1.1 [

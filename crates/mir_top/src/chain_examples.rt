@@ -188,10 +188,10 @@ end
 # as many passes as there may be, each by its word
 main: begin
 end
-$ passes tails join optimise clean fold number copies motion divisions sink wanted called tails join optimise clean \
-fold number copies motion divisions sink wanted called tails join optimise clean fold number copies motion divisions \
-sink wanted called tails join optimise clean fold number copies motion divisions sink wanted called tails join \
-optimise clean fold number copies motion divisions sink wanted called tails join optimise clean
+$ passes tails join optimise clean fold number copies motion divisions sink bounds wanted demanded called tails join \
+optimise clean fold number copies motion divisions sink bounds wanted demanded called tails join optimise clean fold \
+number copies motion divisions sink bounds wanted demanded called tails join optimise clean fold number copies motion \
+divisions sink bounds wanted demanded called tails join optimise clean fold number copies motion
 @ 0
 main: begin
 return 0

@@ -18,7 +18,7 @@ pub enum Command {
     Optimise,
     /// `stages`: the canonical text of the program at each stage of the passes.
     Stages,
-    /// `move`: the same of the target of code motion alone.
+    /// `move`: the canonical text of the target of code motion alone.
     Move,
     /// `ranges`: of each temporary of code motion alone, how often it is set and read, and on how many edges it is
     /// held.
@@ -29,7 +29,7 @@ pub enum Command {
     Tails,
     /// `join`: the canonical text of the program with its leaves joined into their callers.
     Join,
-    /// `thorough`: the canonical text of what turns of `tails`, `join`, `optimise`, `wanted`, `bounds` and `called` make of the
+    /// `thorough`: the canonical text of what turns of `tails`, `join`, `optimise`, `demanded`, `bounds` and `called` make of the
     /// program until a turn changes nothing.
     Thorough,
     /// `passes [PASS ..]`: the canonical text of what these passes make one after another, from the first to the last.

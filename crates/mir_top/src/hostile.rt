@@ -46,7 +46,7 @@ enum Given {
     Faultless(&'static [u8]),
 }
 
-/// What a case leaves.
+/// What the call of a case is to leave: its status and its outputs.
 #[derive(Clone, Copy)]
 enum Left {
     /// Status 0, and the text that was given as the output.

@@ -82,6 +82,8 @@ fn pass_of(word: &[u8]) -> Option<Pass>
         Some(Pass::Bounds)
     } else if is_text(b"wanted", word) {
         Some(Pass::Wanted)
+    } else if is_text(b"demanded", word) {
+        Some(Pass::Demanded)
     } else if is_text(b"called", word) {
         Some(Pass::Called)
     } else {

@@ -224,7 +224,8 @@ pub(crate) fn moves_hold_least(trail: &MoveTrail)
     hold_each(&EveryPath, trail.units.items());
 }
 
-/// Has no effect; carries the same of a trail of the motion of divisions.
+/// Has no effect; carries the theorem that the placements of a trail of the motion of divisions hold their temporaries
+/// least, by the rule of what a run must come to.
 pub(crate) fn divisions_hold_least(trail: &MoveTrail)
     requires { IsDivisionLinked trail.now }
     ensures { All (UnitHoldsLeast MustComeTo) trail.now.units }

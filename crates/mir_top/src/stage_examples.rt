@@ -6,7 +6,8 @@ use std::alloc::{AllocError, Global};
 type StageExample = (&'static str, [(&'static str, &'static str); 3]);
 
 /// The smallest program, which is the same from the first stage on; one with a global and a trap; a copy, which two
-/// stages remove; and three rounds of one unit, and two of the other, whose last shows in the third.
+/// stages remove; and two units, of which one takes three rounds and the other two, so that at the third round this one
+/// shows its second.
 pub const STAGE_EXAMPLES: [StageExample; 4] = [
     (
         "f: begin\nL: end\n",

@@ -15,9 +15,9 @@ motion_bits unit rows i motion are low =
     record {
       busy = record {
         uses = have_bit _ _ rows.places.busy.uses i busy.uses.shape low;
-        up = have_bit _ _ rows.places.busy.up i busy.up.shape low;
-        down = have_bit _ _ rows.places.busy.down i busy.down.shape low;
-        early = have_bit _ _ rows.places.busy.early i busy.early.shape low;
+        available = have_bit _ _ rows.places.busy.available i busy.available.shape low;
+        anticipatable = have_bit _ _ rows.places.busy.anticipatable i busy.anticipatable.shape low;
+        earliest = have_bit _ _ rows.places.busy.earliest i busy.earliest.shape low;
       };
       busy_held = have_bit _ _ rows.places.busy_held.edges i are.places_are.busy_held_are.shape low;
       late = record {

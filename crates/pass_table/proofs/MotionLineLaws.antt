@@ -45,7 +45,7 @@ module _ (unit : UnitTrail) (rows : MotionRows) (lines : MotionLines) (are : Are
       let safe = are.safe_are in
       let late = are.late_are in
       let placed = are.placed_are in
-      rw (safe.uses_are, safe.up_are, safe.down_are, safe.early_are, safe.kills_are, late.delayed_are, late.latest_are, late.isolated_are, placed.busy_held_are, placed.held_are) refl
+      rw (safe.uses_are, safe.available_are, safe.anticipatable_are, safe.earliest_are, safe.kills_are, late.delayed_are, late.latest_are, late.isolated_are, placed.busy_held_are, placed.held_are) refl
 
   -- so the lines tell what the rows tell
   pub lines_tell : AreMotionRows unit rows → TellMotion unit lines

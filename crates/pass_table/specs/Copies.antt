@@ -27,7 +27,8 @@ copies_below vars table held (suc n) =
 
 -- the table has the copies that the nodes are, and no others, each once and in order of the first node that is each;
 -- and the rows say before which nodes each of them holds
-pub record AreHeldCopies (graph : GraphShape) (table : List VarCopy) (held : List (List Bool)) : Type 0 where
+pub record AreHeldCopies (graph : GraphShape) (table : List VarCopy)
+    (held : List (List Bool)) : Type 0 where
   pub all : HasCopies graph.nodes table
   pub only : HasOnlyCopies graph.nodes table
   pub differ : AllDiffer table

@@ -48,9 +48,9 @@ abbrev pub safe_lines : MotionRows → ℕ → List ℕ
 safe_lines rows i =
     bits_line rows.places.busy.uses i (codes "used")
     ++ bits_line rows.bounds.kills i (codes "killed")
-    ++ bits_line rows.places.busy.up i (codes "available")
-    ++ bits_line rows.places.busy.down i (codes "anticipatable")
-    ++ bits_line rows.places.busy.early i (codes "earliest")
+    ++ bits_line rows.places.busy.available i (codes "available")
+    ++ bits_line rows.places.busy.anticipatable i (codes "anticipatable")
+    ++ bits_line rows.places.busy.earliest i (codes "earliest")
 
 -- how far its evaluations can be delayed
 abbrev pub late_lines : Late → ℕ → List ℕ
@@ -63,7 +63,7 @@ late_lines late i =
 -- temporary lives
 abbrev pub busy_lines : PlaceRows → ℕ → List ℕ
 busy_lines places i =
-    bits_line places.busy.early i (codes "busy inserted")
+    bits_line places.busy.earliest i (codes "busy inserted")
     ++ bits_line places.busy.uses i (codes "busy replaced")
     ++ edge_bits_line places.busy_held.edges i (codes "busy held")
 
@@ -126,9 +126,9 @@ pub record AreBusyRanges (unit : UnitTrail) (ranges : BusyRanges) : Type 0 where
 -- each row of these has a bit of this number
 pub record HaveBusyBit (busy : Busy) (bit : ℕ) : Type 0 where
   pub uses : HaveBit busy.uses bit
-  pub up : HaveBit busy.up bit
-  pub down : HaveBit busy.down bit
-  pub early : HaveBit busy.early bit
+  pub available : HaveBit busy.available bit
+  pub anticipatable : HaveBit busy.anticipatable bit
+  pub earliest : HaveBit busy.earliest bit
 
 -- so it is of these
 pub record HaveLateBit (late : Late) (bit : ℕ) : Type 0 where

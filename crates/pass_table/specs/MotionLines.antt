@@ -17,9 +17,9 @@ use Rattle.pass_table.specs.Motion.{AreMotionRows}
 pub record AreSafeLines (rows : MotionRows) (lines : SafeLines) : Type 0 where
   pub uses_are : lines.uses ≡ rows.places.busy.uses
   pub kills_are : lines.kills ≡ rows.bounds.kills
-  pub up_are : lines.up ≡ rows.places.busy.up
-  pub down_are : lines.down ≡ rows.places.busy.down
-  pub early_are : lines.early ≡ rows.places.busy.early
+  pub available_are : lines.available ≡ rows.places.busy.available
+  pub anticipatable_are : lines.anticipatable ≡ rows.places.busy.anticipatable
+  pub earliest_are : lines.earliest ≡ rows.places.busy.earliest
 
 -- how far they can be delayed
 pub record AreLateLines (late : Late) (lines : LateLines) : Type 0 where
@@ -28,14 +28,16 @@ pub record AreLateLines (late : Late) (lines : LateLines) : Type 0 where
   pub isolated_are : lines.isolated ≡ late.isolated
 
 -- the placement, and where temporaries live
-pub record ArePlacedLines (placement : Placement) (rows : MotionRows) (lines : PlacedLines) : Type 0 where
+pub record ArePlacedLines (placement : Placement) (rows : MotionRows)
+    (lines : PlacedLines) : Type 0 where
   pub busy_held_are : lines.busy_held ≡ rows.places.busy_held.edges
   pub insert_are : lines.insert ≡ placement.insert
   pub replace_are : lines.replace ≡ placement.replace
   pub held_are : lines.held ≡ rows.bounds.held.edges
 
 -- and all of this
-pub record AreMotionLines (placement : Placement) (rows : MotionRows) (lines : MotionLines) : Type 0 where
+pub record AreMotionLines (placement : Placement) (rows : MotionRows)
+    (lines : MotionLines) : Type 0 where
   pub safe_are : AreSafeLines rows lines.safe
   pub late_are : AreLateLines rows.places.late lines.late
   pub placed_are : ArePlacedLines placement rows lines.placed
@@ -44,7 +46,7 @@ pub record AreMotionLines (placement : Placement) (rows : MotionRows) (lines : M
 
 -- the rows of the busy placement
 abbrev pub busy_of : MotionLines → Busy
-busy_of lines = record { uses = lines.safe.uses; up = lines.safe.up; down = lines.safe.down; early = lines.safe.early }
+busy_of lines = record { uses = lines.safe.uses; available = lines.safe.available; anticipatable = lines.safe.anticipatable; earliest = lines.safe.earliest }
 
 -- those of how far expressions can be delayed; the rows of where these are used are those of the busy placement
 abbrev pub late_of : MotionLines → Late

@@ -17,7 +17,7 @@ use Rattle.table_text.specs.Rows.{bit_byte, bits_line}
 
 -- ---- dead assignments
 
--- a bit for each of the first nodes, of which there are so many
+-- a bit for each node below this number
 abbrev pub flags_below : (ℕ → Bool) → ℕ → List ℕ
 flags_below flag zero = []
 flags_below flag (suc n) = flags_below flag n ++ bit_byte (flag n) ∷ []
@@ -64,7 +64,8 @@ sunk_line number = codes "stage sunk" ++ field (decimal number) ++ codes "\n"
 
 -- the text is that of the graph whose assignments have sunk in the round of this number, and of what is dead and live
 -- in it
-pub record IsSunkText (units : List (List ℕ)) (number : ℕ) (sunk : GraphShape) (text : List ℕ) : Type 0 where
+pub record IsSunkText (units : List (List ℕ)) (number : ℕ) (sunk : GraphShape)
+    (text : List ℕ) : Type 0 where
   pub dead : List ℕ
   pub live : List ℕ
   pub is_dead : IsDeadLine sunk dead
@@ -73,7 +74,8 @@ pub record IsSunkText (units : List (List ℕ)) (number : ℕ) (sunk : GraphShap
 
 -- the text is that of the round of a unit behind so many others: what sinking finds out, the graph that it makes, what is
 -- dead and live there, and the graph without the dead assignments
-pub record IsRoundAt (units : List (List ℕ)) (unit : UnitTrail) (number : ℕ) (text : List ℕ) : Type 0 where
+pub record IsRoundAt (units : List (List ℕ)) (unit : UnitTrail) (number : ℕ)
+    (text : List ℕ) : Type 0 where
   pub sunk : GraphShape
   pub sinking : List ℕ
   pub pruning : List ℕ

@@ -54,7 +54,8 @@ abbrev pub shown_text : List (List ℕ) → UnitTrail → Stage → List ℕ
 shown_text units unit stage = stage_line stage ++ graph_text units (graph_at unit stage)
 
 -- the text is that of what is found out so, and then of the graph at this stage
-pub record IsStageText (units : List (List ℕ)) (unit : UnitTrail) (stage : Stage) (text : List ℕ) : Type 0 where
+pub record IsStageText (units : List (List ℕ)) (unit : UnitTrail) (stage : Stage)
+    (text : List ℕ) : Type 0 where
   pub found : List ℕ
   pub is_found : IsFoundText unit stage found
   pub text_is : text ≡ found ++ shown_text units unit stage

@@ -61,4 +61,5 @@ pub record IsTermsText (graph : GraphShape) (text : List ℕ) : Type 0 where
   pub table : List TermKey
   pub nodes : List TermsAt
   pub are : AreAllTerms graph table nodes
-  pub text_is : text ≡ terms_below graph.vars table (length table) ++ nodes_below nodes (length nodes)
+  pub text_is : text
+      ≡ terms_below graph.vars table (length table) ++ nodes_below nodes (length nodes)

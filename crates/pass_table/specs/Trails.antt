@@ -11,7 +11,8 @@ abbrev pub AreLinkedUnits : List UnitTrail → Type 0
 AreLinkedUnits units = All IsUnitLinked units
 
 -- the text is that of the unit of this number, among units of these names
-pub record IsUnitAt (names : List (List ℕ)) (units : List UnitTrail) (number : ℕ) (text : List ℕ) : Type 0 where
+pub record IsUnitAt (names : List (List ℕ)) (units : List UnitTrail) (number : ℕ)
+    (text : List ℕ) : Type 0 where
   pub unit : UnitTrail
   pub stands : slice_get units number ≡ Some unit
   pub is : IsUnitText names unit text

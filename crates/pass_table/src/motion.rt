@@ -133,7 +133,7 @@ fn busy_ranges(
 {
     busy_admits(&EveryPath, &unit.split, &unit.table, &busy);
     let placement = Placement {
-        insert: busy.early,
+        insert: busy.earliest,
         replace: busy.uses,
     };
     let held = held_edges(
@@ -146,9 +146,9 @@ fn busy_ranges(
     )?;
     let busy = Busy {
         uses: placement.replace,
-        up: busy.up,
-        down: busy.down,
-        early: placement.insert,
+        available: busy.available,
+        anticipatable: busy.anticipatable,
+        earliest: placement.insert,
     };
     Ok(BusyRanges { busy, held })
 }
@@ -321,9 +321,9 @@ fn put_safe(text: &mut Vec<u8>, lines: &MotionLines, number: usize) -> Result<()
     let safe = &lines.safe;
     put_bits(text, &safe.uses, number, b"used")?;
     put_bits(text, &safe.kills, number, b"killed")?;
-    put_bits(text, &safe.up, number, b"available")?;
-    put_bits(text, &safe.down, number, b"anticipatable")?;
-    put_bits(text, &safe.early, number, b"earliest")?;
+    put_bits(text, &safe.available, number, b"available")?;
+    put_bits(text, &safe.anticipatable, number, b"anticipatable")?;
+    put_bits(text, &safe.earliest, number, b"earliest")?;
     Ok(())
 }
 
@@ -344,7 +344,7 @@ fn put_busy(text: &mut Vec<u8>, lines: &MotionLines, number: usize) -> Result<()
     ensures { AppendsOnOk result text.old text.new
         (busy_lines (rows_of_lines lines.now).places number) }
 {
-    put_bits(text, &lines.safe.early, number, b"busy inserted")?;
+    put_bits(text, &lines.safe.earliest, number, b"busy inserted")?;
     put_bits(text, &lines.safe.uses, number, b"busy replaced")?;
     put_edge_bits(text, &lines.placed.busy_held, number, b"busy held")
 }

@@ -30,11 +30,11 @@ pub(crate) struct SafeLines {
     /// Where it is killed.
     pub(crate) kills: Columns,
     /// Where it is available.
-    pub(crate) up: Columns,
+    pub(crate) available: Columns,
     /// Where it is anticipatable.
-    pub(crate) down: Columns,
+    pub(crate) anticipatable: Columns,
     /// Where it is earliest; the busy placement inserts it there.
-    pub(crate) early: Columns,
+    pub(crate) earliest: Columns,
 }
 
 /// The lines of how far expressions can be delayed.
@@ -81,14 +81,14 @@ fn safe_lines_of(alloc: Global, rows: &MotionRows) -> Result<SafeLines, Memory>
 {
     let busy = &rows.places.busy;
     let (uses, kills) = two_lines(alloc, &busy.uses, &rows.bounds.kills)?;
-    let (up, down) = two_lines(alloc, &busy.up, &busy.down)?;
-    let early = Columns::of(alloc, &busy.early)?;
+    let (available, anticipatable) = two_lines(alloc, &busy.available, &busy.anticipatable)?;
+    let earliest = Columns::of(alloc, &busy.earliest)?;
     Ok(SafeLines {
         uses,
         kills,
-        up,
-        down,
-        early,
+        available,
+        anticipatable,
+        earliest,
     })
 }
 

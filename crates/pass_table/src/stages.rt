@@ -54,7 +54,8 @@ pub(crate) fn put_finding(
     Ok(())
 }
 
-/// The same of the round of this number, from 1 on, by the edges of the graph before it.
+/// Appends what the pass finds out that makes the round of this number, counted from 1, behind its name; `edges` are
+/// those of the graph before this round.
 pub(crate) fn put_round_finding(
     alloc: Global,
     text: &mut Vec<u8>,

@@ -1,6 +1,5 @@
 // The tables of a unit, stage by stage. Each function fails only with `Memory`.
 ghost use Rattle.std.specs.Prelude.{length, OnOk};
-ghost use Rattle.mir_opt.specs.Stages.{before_rounds};
 ghost use Rattle.table_text.specs.Lines.{names_of_units};
 ghost use Rattle.table_text.specs.Turns.{AppendsSome, InTurn};
 ghost use Rattle.pass_table.specs.Units.{IsStageAt, IsUnitLinked, IsUnitMotion, IsUnitText};
@@ -8,7 +7,7 @@ ghost use Rattle.pass_table.specs.Units.{IsStageAt, IsUnitLinked, IsUnitMotion, 
 use crate::rounds::put_rounds;
 use crate::stages::put_stage;
 use mir_base::{Memory, Unit as MirUnit};
-use mir_opt::{Stage, UnitTrail};
+use mir_opt::{Stage, UnitTrail, before_rounds};
 use std::alloc::Global;
 use table_text::put_unit;
 
@@ -24,23 +23,11 @@ pub(crate) fn put_unit_tables(
         text.old text.new) }
 {
     put_unit(text, unit.lowered.name())?;
-    put_stages(alloc, text, units, unit, &BEFORE_ROUNDS)?;
+    put_stages(alloc, text, units, unit, before_rounds())?;
     put_rounds(alloc, text, units, unit)?;
     put_stage(alloc, text, units, unit, Stage::Result)?;
     Ok(())
 }
-
-/// The stages before the rounds, in their order.
-const BEFORE_ROUNDS: [Stage; 8] = [
-    Stage::Lower,
-    Stage::Clean,
-    Stage::Fold,
-    Stage::Number,
-    Stage::Copies,
-    Stage::Split,
-    Stage::Motion,
-    Stage::CopiesAfterMotion,
-];
 
 /// Appends the tables of each of these stages of a unit.
 fn put_stages(

@@ -1,4 +1,4 @@
-// One file for each layer.
+// Examples as texts, and for each layer a file that makes its answers into text.
 mod blocks;
 mod bound_examples;
 mod copied;

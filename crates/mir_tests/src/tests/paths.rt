@@ -1,22 +1,18 @@
-// Where a bit holds by the three statements about paths; and that the calls over blocks give the same rows.
-ghost use Rattle.std.specs.Prelude.{◌≡◌, ◌<◌, IfOk};
+// Where a bit holds by the three statements about paths; and that the call that makes its own blocks gives the same rows.
+ghost use Rattle.std.specs.Prelude.{◌≡◌, IfOk};
 ghost use Rattle.flow_graph.specs.Blocks.{AreBlocksOf};
 ghost use Rattle.flow_graph.specs.Edges.{edges_of};
 ghost use Rattle.path_laws.specs.Paths.{HaveShape};
 
 use crate::tests::shown::put_bit;
 use bit_rows::Rows;
-use fix_solve::Steps;
 use flow_graph::{Blocks, Edges, Graph};
 use mir_base::Memory;
 use path_laws::{
-    backward_all, backward_all_in, backward_some, backward_some_in, forward_all, forward_all_in,
-    some_successor,
+    backward_all_over, backward_some_over, forward_all, forward_all_over, some_successor,
 };
 use std::alloc::Global;
-use std::marker::Brand;
 use std::mem;
-use std::sync::ledger::{Blank, Ledger};
 use std::test::Fail;
 
 /// Where a bit holds by a statement about paths. The words are the statement's name and, after `born` and `stop`, the
@@ -31,7 +27,7 @@ pub(crate) fn held_text(alloc: Global, words: &str, graph: &Graph) -> Result<Str
     Ok(text?)
 }
 
-/// The same, along the edges of the graph; and, where the call over blocks says otherwise, what it says.
+/// The same, along the edges of the graph; and, where the call that makes its own blocks says otherwise, what it says.
 fn text_along(
     alloc: Global,
     statement: &str,
@@ -42,32 +38,28 @@ fn text_along(
     requires { edges.now ≡ edges_of graph.now.nodes }
 {
     let (born, stop) = born_and_stopped;
-    let born_and_stopped = BitRows {
+    let rows = BitRows {
         born: rows_at(alloc, graph, born)?,
         stop: rows_at(alloc, graph, stop)?,
     };
-    let plain = born_and_stopped.text(alloc, statement, graph, edges)?;
-    let over = rows_over::<Brand>(
-        alloc,
-        statement_of(statement),
-        graph,
-        edges,
-        &born_and_stopped,
-        Blank::new(1),
-    );
-    mem::drop(born_and_stopped);
-    let over = over?;
-    let other = text_of(alloc, statement, &over);
-    mem::drop(over);
-    let other = other?;
-    with_other(plain, other.as_str())
+    let blocks = Blocks::of(alloc, graph, edges)?;
+    let held = rows.held(alloc, statement_of(statement), graph, edges, &blocks)?;
+    let text = text_of(alloc, statement, &held)?;
+    match statement_of(statement) {
+        Statement::Before => {
+            let plain = forward_all(alloc, graph, edges, &rows.born, &rows.stop)?;
+            let plain = text_of(alloc, statement, &plain)?;
+            with_other(text, plain.as_str())
+        }
+        Statement::After | Statement::Ahead | Statement::Beyond => Ok(text),
+    }
 }
 
 /// The text, with another behind it where that is not the same.
 fn with_other(text: String, other: &str) -> Result<String, Memory> {
     let mut text = text;
     if text.as_str() != other {
-        text.push_str("over blocks ")?;
+        text.push_str("by itself ")?;
         text.push_str(other)?;
     }
     Ok(text)
@@ -99,28 +91,6 @@ fn text_of(alloc: Global, name: &str, held: &Rows) -> Result<String, Memory> {
     Ok(text)
 }
 
-/// The rows of where the bit of these rows holds by the statement, by the call over the blocks of the graph.
-fn rows_over<L: Ledger>(
-    alloc: Global,
-    statement: Statement,
-    graph: &Graph,
-    edges: &Edges,
-    rows: &BitRows,
-    blank: Blank,
-) -> Result<Rows, Memory>
-    requires edges { edges.now ≡ edges_of graph.now.nodes }
-    requires born { HaveShape graph.now 1 rows.now.born }
-    requires stop { HaveShape graph.now 1 rows.now.stop }
-    requires name { blank.name ≡ L.name }
-    requires parts { blank.parts ≡ L.parts }
-    requires some { 0 < blank.parts }
-{
-    let mut steps = Steps::<L>::new(blank);
-    let blocks = Blocks::of(alloc, graph, edges)?;
-    let held = rows.held_over(alloc, statement, graph, edges, &blocks, &mut steps)?;
-    Ok(held)
-}
-
 /// Where a bit is born, and where it is stopped.
 #[derive(Drop)]
 struct BitRows {
@@ -129,56 +99,14 @@ struct BitRows {
 }
 
 impl BitRows {
-    /// Where the bit holds by the statement of this name.
-    fn text(
-        &self,
-        alloc: Global,
-        name: &str,
-        graph: &Graph,
-        edges: &Edges,
-    ) -> Result<String, Memory>
-        requires edges { edges.now ≡ edges_of graph.now.nodes }
-        requires born { HaveShape graph.now 1 self.now.born }
-        requires stop { HaveShape graph.now 1 self.now.stop }
-    {
-        let held = self.held(alloc, statement_of(name), graph, edges)?;
-        let text = text_of(alloc, name, &held)?;
-        Ok(text)
-    }
-
-    /// The rows of where the bit holds.
+    /// The rows of where the bit holds by the statement.
     fn held(
         &self,
         alloc: Global,
         statement: Statement,
         graph: &Graph,
         edges: &Edges,
-    ) -> Result<Rows, Memory>
-        requires edges { edges.now ≡ edges_of graph.now.nodes }
-        requires born { HaveShape graph.now 1 self.now.born }
-        requires stop { HaveShape graph.now 1 self.now.stop }
-    {
-        let BitRows { born, stop } = self;
-        match statement {
-            Statement::Before => forward_all(alloc, graph, edges, born, stop),
-            Statement::After => backward_all(alloc, graph, edges, born, stop),
-            Statement::Ahead => backward_some(alloc, graph, edges, born, stop),
-            Statement::Beyond => {
-                let ahead = backward_some(alloc, graph, edges, born, stop)?;
-                some_successor(alloc, graph, edges, &ahead)
-            }
-        }
-    }
-
-    /// The same, by the calls over blocks.
-    fn held_over<L: Ledger>(
-        &self,
-        alloc: Global,
-        statement: Statement,
-        graph: &Graph,
-        edges: &Edges,
         blocks: &Blocks,
-        steps: &mut Steps<L>,
     ) -> Result<Rows, Memory>
         requires edges { edges.now ≡ edges_of graph.now.nodes }
         requires blocks { AreBlocksOf graph.now.nodes blocks.now }
@@ -187,11 +115,11 @@ impl BitRows {
     {
         let BitRows { born, stop } = self;
         match statement {
-            Statement::Before => forward_all_in(alloc, graph, edges, blocks, born, stop, steps),
-            Statement::After => backward_all_in(alloc, graph, edges, blocks, born, stop, steps),
-            Statement::Ahead => backward_some_in(alloc, graph, edges, blocks, born, stop, steps),
+            Statement::Before => forward_all_over(alloc, graph, edges, blocks, born, stop),
+            Statement::After => backward_all_over(alloc, graph, edges, blocks, born, stop),
+            Statement::Ahead => backward_some_over(alloc, graph, edges, blocks, born, stop),
             Statement::Beyond => {
-                let ahead = backward_some_in(alloc, graph, edges, blocks, born, stop, steps)?;
+                let ahead = backward_some_over(alloc, graph, edges, blocks, born, stop)?;
                 some_successor(alloc, graph, edges, &ahead)
             }
         }

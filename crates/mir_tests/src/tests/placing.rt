@@ -98,9 +98,9 @@ fn put_equations(
     let busy = busy(alloc, &EveryPath, graph, edges, table)?;
     let late = late(alloc, &EveryPath, graph, edges, table, &busy);
     let put = put_safe_and_late(shown, &busy, late);
-    let Busy { uses, early, .. } = busy;
+    let Busy { uses, earliest, .. } = busy;
     let placement = Placement {
-        insert: early,
+        insert: earliest,
         replace: uses,
     };
     match put {
@@ -138,12 +138,12 @@ fn put_rows(shown: &mut Shown, name: &str, rows: Result<Rows, Memory>) -> Result
 
 /// Appends a line each for where it is available, anticipatable and earliest.
 fn put_busy_rows(shown: &mut Shown, busy: &Busy) -> Result<(), Memory> {
-    shown.put("available", &busy.up)?;
-    shown.put("anticipatable", &busy.down)?;
-    shown.put("earliest", &busy.early)
+    shown.put("available", &busy.available)?;
+    shown.put("anticipatable", &busy.anticipatable)?;
+    shown.put("earliest", &busy.earliest)
 }
 
-/// Appends a line each for where it is delayed, latest and isolated.
+/// Appends the rows of where each expression is delayed, latest and isolated.
 fn put_late_rows(shown: &mut Shown, late: &Late) -> Result<(), Memory> {
     shown.put("delayed", &late.delayed)?;
     shown.put("latest", &late.latest)?;

@@ -225,4 +225,105 @@ $ run 1000 4
 Ended(10) 9 []
 $ tails run 1000 4
 Ended(10) 9 []
+# a called unit wants four bits of one argument and none of the other, which its caller then does not compute
+main: begin
+receive a(val)
+b <- a * 3
+c <- a + 256
+x <- low,(c,int;b,int)
+y <- x and 15
+return y
+end
+low: begin
+receive p(val)
+receive q(val)
+r <- p + 1
+return r
+end
+$ demanded
+main: begin
+receive a(val)
+c <- a
+x <- low,(c,int;0,int)
+y <- x and 15
+return y
+end
+low: begin
+receive p(val)
+receive q(val)
+r <- p + 1
+return r
+end
+$ wanted
+same
+$ run 100 5
+Ended(6) 4 []
+$ demanded run 100 5
+Ended(6) 2 []
+# no caller wants the result, and no unit the global
+global g
+main: begin
+receive n(val)
+g <- n * 5
+call count,(n,int)
+return n
+end
+count: begin
+receive m(val)
+g <- g + m
+r <- m * m
+return r
+end
+$ demanded
+global g
+main: begin
+receive n(val)
+call count,(0,int)
+return n
+end
+count: begin
+receive m(val)
+return 0
+end
+$ run 100 4
+Ended(4) 3 []
+$ demanded run 100 4
+Ended(4) 0 []
+# a recursion wants of its argument what it hands on: the sign is looked at, so all bits are
+main: begin
+receive n(val)
+x <- down,(n,int;1,int)
+y <- x and 1
+return y
+end
+down: begin
+receive k(val)
+receive s(val)
+if k < 1 goto L1
+k <- k - 1
+s <- s + 2
+t <- down,(k,int;s,int)
+return t
+L1: return s
+end
+$ demanded
+main: begin
+receive n(val)
+x <- down,(n,int;1,int)
+y <- x and 1
+return y
+end
+down: begin
+receive k(val)
+receive s(val)
+if k < 1 goto L1
+k <- k - 1
+t <- down,(k,int;s,int)
+return t
+L1: return s
+end
+$ run 1000 3
+Ended(1) 7 []
+$ demanded run 1000 3
+Ended(1) 4 []
 ";

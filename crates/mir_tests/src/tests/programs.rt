@@ -86,6 +86,7 @@ fn pass_named(name: &str) -> Option<Pass> {
         "sink" => Some(Pass::Sink),
         "bounds" => Some(Pass::Bounds),
         "wanted" => Some(Pass::Wanted),
+        "demanded" => Some(Pass::Demanded),
         "called" => Some(Pass::Called),
         _ => None,
     }

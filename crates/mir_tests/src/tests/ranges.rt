@@ -25,7 +25,7 @@ pub(crate) fn ranges_text(alloc: Global, graph: &Graph) -> Result<String, Fail> 
     Ok(text?)
 }
 
-/// The same, over the edges of a graph that is split.
+/// The text of `ranges_text`, by the edges of the graph, which is split.
 fn text_over(alloc: Global, graph: &Graph, edges: &Edges) -> Result<String, Memory>
     requires split { IsSplit graph.now.nodes }
     requires edges { edges.now ≡ edges_of graph.now.nodes }

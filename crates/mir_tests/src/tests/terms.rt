@@ -43,7 +43,7 @@ fn put_terms(
     put
 }
 
-/// Appends this line, where `texts` has the text of each term.
+/// Appends the line of node n: its root, and of each variable that has a term the text of it out of `texts`.
 fn put_line(
     text: &mut String,
     vars: &[Name],

@@ -83,7 +83,7 @@ return n
 L1: m <- n + k
 return m
 end
-$ tails join optimise wanted bounds called
+$ tails join optimise demanded bounds called
 main: begin
 receive n(val)
 x <- first,(n,int)
@@ -122,7 +122,7 @@ n <- n - 1
 goto L1
 L2: return s
 end
-$ tails join optimise wanted bounds called
+$ tails join optimise demanded bounds called
 main: begin
 receive n(val)
 L1: if n = 0 goto L2

@@ -5,7 +5,7 @@ pub returns : goal.returns
 returns c = record { busy_are = c.requires.busy; held_are = c.in_ok-held.ensures.held }
 
 pub held_edges-requires-clause-insert : goal.held_edges-requires-clause-insert
-held_edges-requires-clause-insert c = c.requires.busy.early.shape
+held_edges-requires-clause-insert c = c.requires.busy.earliest.shape
 
 pub held_edges-requires-clause-replace : goal.held_edges-requires-clause-replace
 held_edges-requires-clause-replace c = c.requires.busy.uses.shape

@@ -1,6 +1,9 @@
-use Rattle.std.proofs.Common.{List, ℕ, ◌++◌, ◌∙◌, ap, refl}
-use Rattle.table_text.specs.Lines.{unit_line}
+use Rattle.std.proofs.Common.{List, ℕ, ◌++◌, ◌∙◌, ap, length, refl, subst}
+use Rattle.mir_opt.specs.declared.stages.Stage.{Stage}
+use Rattle.table_text.specs.Lines.{names_of_units, unit_line}
+use Rattle.table_text.specs.Turns.{InTurn}
 use Rattle.table_text.specs.TurnLaws.{two_pieces}
+use Rattle.pass_table.specs.Units.{IsStageAt}
 use Rattle.pass_table.proofs.units.put_unit_tables.Goals as goal
 
 pub put_stages-requires : goal.put_stages-requires
@@ -12,6 +15,8 @@ put_stage-requires c = c.requires.motion
 -- the parts stand one behind the other
 pub returns : goal.returns
 returns c =
+    let names = names_of_units c.args.units.now in
+    let unit = c.args.unit.now in
     let name = unit_line c.args.unit.now.lowered.name in
     let front = c.in_ok-put_stages.ensures in
     let rounds = c.in_ok-put_rounds.ensures in
@@ -27,7 +32,7 @@ returns c =
         front = front.0;
         rounds = rounds.0;
         last = last.0;
-        begins = front.1;
+        begins = subst (λ (l : List Stage). InTurn (IsStageAt names unit l) (length l) front.0) c.before_rounds.ensures front.1;
         sinks = rounds.1;
         ends = last.1;
         text_is = refl;
