@@ -61,8 +61,12 @@ uint8_t mir_call(const uint8_t *words, size_t words_length,
                  uint8_t *line, size_t line_room, size_t *line_length);
 
 /* Puts what each pass finds out about each node of the program of this text into the room, as the program mir_tables
- * writes it. All else is as for mir_call; the statuses are MIR_DONE, MIR_TEXT, MIR_NO_ROOM and MIR_NO_MEMORY. */
-uint8_t mir_tables_call(const uint8_t *text, size_t text_length,
+ * writes it with these words: none, or one of "optimise", which asks for the same, "divisions", "tails", "join",
+ * "bounds" and "wanted", with its zero byte. No words are a length of 0, behind a pointer that is not null; other words,
+ * and bytes that spell none, are refused. All else is as for mir_call; the statuses are MIR_DONE, MIR_WORDS, MIR_TEXT,
+ * MIR_NO_ROOM and MIR_NO_MEMORY. */
+uint8_t mir_tables_call(const uint8_t *words, size_t words_length,
+                        const uint8_t *text, size_t text_length,
                         uint8_t *out, size_t out_room, size_t *out_length,
                         uint8_t *line, size_t line_room, size_t *line_length);
 

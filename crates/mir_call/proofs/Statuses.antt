@@ -50,7 +50,7 @@ refusal_is_not_six text complaint (long above) is = omega arith
 refusal_is_not_six text complaint (unreadable fault short refusal) is = text_is_not_six fault is
 refusal_is_not_six text complaint (invalid fault short refusal) is = program_is_not_six fault is
 
--- nor does a call of `tables` over a source that never fails end with it where it asks for tables
+-- nor does a call of `tables` that asks for tables have the status 6, over a source that never fails
 kind_is_not_six : (kind : TableKind) (text left : List ℕ) (out err : Stream) (status : ℕ)
     → TextPromises kind (record { source = without_fault (Some text) (Some left); out = out; err = err; status = status })
     → status ≡ 6 → ⊥

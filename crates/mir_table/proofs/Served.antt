@@ -216,7 +216,7 @@ module _ (kind : TableKind) (command : Command) (call : Call) (p : Promises call
 
 -- ---- both together
 
--- `top` has written nothing to the error output, so that this is as the writing of the tables leaves it
+-- `top` has written nothing to the error output, so after the tables are written it has what that writing put there
 module _ (kind : TableKind) (command : Command) (call : Call) (p : Promises call) (asked : AsksToMake command call.words) (zero_is : call.reply.status ≡ 0) (program : ProgramShape) (has : HasRead call.source program) (subject : HasSubject kind program) where
   pub served_program : (out second : Stream) (status : ℕ) → call.err.new ≡ second.old → call.err.after ≡ second.before → HasWritten (ShowsKind kind program subject) out second status
       → ((words : List (List ℕ)) (text : List ℕ) (n : ℕ) (complaint : Complaint) → Completes words text n → Refuses words text complaint → ⊥)
@@ -250,6 +250,8 @@ pub further_subject : (f : Further) (call : Call) (trail : MoveTrail) → HasDiv
 further_subject further.Divisions call trail has = (trail, record { source = refl; divides = has.improves })
 further_subject further.Tails call trail has = tt
 further_subject further.Join call trail has = tt
+further_subject further.Bounds call trail has = tt
+further_subject further.Wanted call trail has = tt
 
 -- and what they show
 pub further_shows : (f : Further) (call : Call) (trail : MoveTrail) (has : HasDivided call trail) (text : List ℕ) → IsTextOf f trail text → ShowsKind (kind_from f) trail.source (further_subject f call trail has) text
@@ -257,6 +259,8 @@ unfolding further_subject
 further_shows further.Divisions call trail has text shows = shows
 further_shows further.Tails call trail has text shows = shows
 further_shows further.Join call trail has text shows = shows
+further_shows further.Bounds call trail has text shows = shows
+further_shows further.Wanted call trail has text shows = shows
 
 -- ---- words
 

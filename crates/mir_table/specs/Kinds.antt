@@ -5,12 +5,14 @@ use Rattle.mir_base.specs.Words.{is_text}
 use Rattle.mir_opt.specs.declared.trails.MoveTrail.{MoveTrail}
 use Rattle.mir_opt.specs.declared.trails.Trail.{Trail}
 use Rattle.mir_top.specs.Outputs.{Divides, Optimises}
+use Rattle.bound_table.specs.Bounded.{ShowsBounds}
+use Rattle.wanted_table.specs.Narrowings.{ShowsWanted}
 use Rattle.call_table.specs.Joins.{ShowsJoins}
 use Rattle.call_table.specs.Tails.{ShowsTails}
 use Rattle.division_table.specs.Trails.{ShowsDivisions}
 use Rattle.pass_table.specs.Trails.{ShowsTables}
 use Rattle.mir_table.specs.declared.kinds.TableKind.{TableKind}
-use Rattle.mir_table.specs.declared.kinds.TableKind.TheVariants.{Optimise, Divisions, Tails, Join}
+use Rattle.mir_table.specs.declared.kinds.TableKind.TheVariants.{Optimise, Divisions, Tails, Join, Bounds, Wanted}
 
 -- ---- words
 
@@ -20,7 +22,9 @@ kind_named word =
     if is_text (codes "optimise") word then Some Optimise else
     if is_text (codes "divisions") word then Some Divisions else
     if is_text (codes "tails") word then Some Tails else
-    if is_text (codes "join") word then Some Join else None
+    if is_text (codes "join") word then Some Join else
+    if is_text (codes "bounds") word then Some Bounds else
+    if is_text (codes "wanted") word then Some Wanted else None
 
 -- the tables that these words ask for: those of `optimise` where there is no word
 abbrev pub kind_of : List (List ℕ) → Option TableKind
@@ -46,6 +50,8 @@ HasSubject Optimise program = (trail : Trail) × IsTrailOf program trail
 HasSubject Divisions program = (trail : MoveTrail) × IsDivisionTrailOf program trail
 HasSubject Tails program = Unit {0}
 HasSubject Join program = Unit {0}
+HasSubject Bounds program = Unit {0}
+HasSubject Wanted program = Unit {0}
 
 -- the text is that of the tables
 abbrev pub ShowsKind : (kind : TableKind) (program : ProgramShape) → HasSubject kind program → List ℕ → Type 0
@@ -53,3 +59,5 @@ ShowsKind Optimise program subject text = ShowsTables subject.0 text
 ShowsKind Divisions program subject text = ShowsDivisions subject.0 text
 ShowsKind Tails program subject text = ShowsTails program text
 ShowsKind Join program subject text = ShowsJoins program text
+ShowsKind Bounds program subject text = ShowsBounds program text
+ShowsKind Wanted program subject text = ShowsWanted program text

@@ -29,7 +29,7 @@ AsksFor command words = command_of words ≡ Some command
 
 -- how the program is called
 abbrev pub table_usage : Complaint
-table_usage = record { status = 1; line = codes "usage: mir_tables [optimise | divisions | tails | join]\n" }
+table_usage = record { status = 1; line = codes "usage: mir_tables [optimise | divisions | tails | join | bounds | wanted]\n" }
 
 -- the call ended with this complaint
 pub record EndedBy (status : ℕ) (err : Stream) (complaint : Complaint) : Type 0 where

@@ -8,12 +8,14 @@ ghost use Rattle.mir_table.specs.Further.{IsTextOf, kind_from};
 ghost use Rattle.mir_table.specs.Promises.{AsksFor, TextPromises};
 
 use crate::call::write_text;
+use bound_table::text_of_bounds;
 use call_table::{text_of_joins, text_of_tails};
 use division_table::text_of_divisions;
 use mir_opt::MoveTrail;
 use mir_outside::{FaultlessSink, Memory, Sink, Source};
 use mir_top::{complain_of_memory, one_thing_is_due, top};
 use std::alloc::Global;
+use wanted_table::text_of_wanted;
 
 /// Tables other than those of all passes.
 #[derive(Clone, Copy)]
@@ -24,6 +26,10 @@ pub(crate) enum Further {
     Tails,
     /// Those of joined leaves.
     Join,
+    /// Those of the pass that uses bounds.
+    Bounds,
+    /// Those of the pass that drops unwanted bits.
+    Wanted,
 }
 
 /// Writes these tables of the program that is read from the source.
@@ -92,5 +98,7 @@ fn text_of(alloc: Global, further: Further, trail: &MoveTrail) -> Result<Vec<u8>
         Further::Divisions => text_of_divisions(alloc, trail),
         Further::Tails => text_of_tails(alloc, &trail.source),
         Further::Join => text_of_joins(alloc, &trail.source),
+        Further::Bounds => text_of_bounds(alloc, &trail.source),
+        Further::Wanted => text_of_wanted(alloc, &trail.source),
     }
 }

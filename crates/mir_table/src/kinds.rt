@@ -16,6 +16,10 @@ pub enum TableKind {
     Tails,
     /// `join`: which units are leaves, and what becomes of each call.
     Join,
+    /// `bounds`: between which numbers the values of variables lie.
+    Bounds,
+    /// `wanted`: how many bits of variables are wanted.
+    Wanted,
 }
 
 impl TableKind {
@@ -43,6 +47,10 @@ fn kind_named(word: &[u8]) -> Option<TableKind>
         Some(TableKind::Tails)
     } else if is_text(b"join", word) {
         Some(TableKind::Join)
+    } else if is_text(b"bounds", word) {
+        Some(TableKind::Bounds)
+    } else if is_text(b"wanted", word) {
+        Some(TableKind::Wanted)
     } else {
         None
     }

@@ -297,3 +297,98 @@ $
 laid 3 taken
 unit f
 ";
+
+/// Under `bounds`: what tests and operators tell of variables.
+pub const BOUNDS: &str = "\
+# an end from a test, an end from an operator, and a test that they decide
+main: begin
+receive a(val)
+if a < 0 goto L1
+x <- a min 255
+if x > 300 goto L1
+print x
+L1: return a
+end
+$
+tables 1 bounds
+unit main
+stage lower
+globals 0
+$
+pass bounds
+state 0 0 0
+state 1 .. 0
+state 2 0.. 0
+state 3 0.. 0..255
+state 4 0.. 0..255
+state 5 .. 0..255
+stage bounds
+globals 0
+vars a x
+received a
+node 0 start 1
+node 1 test 5,2 if a < 0
+node 2 assign 3 x <- a min 255
+node 3 skip 4
+node 4 print 5 print x
+node 5 return - return a
+pass clean
+# no run comes to one side
+main: begin
+receive a(val)
+x <- a and 7
+if x < 0 goto L1
+return x
+L1: print a
+return 0
+end
+$
+pass bounds
+state 0 0 0
+state 1 .. 0
+state 2 .. 0..127
+state 3 .. 0..127
+state 4 unreached
+state 5 unreached
+stage bounds
+globals 0
+vars a x
+received a
+node 0 start 1
+node 1 assign 2 x <- a and 7
+node 2 skip 3
+node 3 return - return x
+pass clean
+stage result
+";
+
+/// Under `wanted`: how many bits are wanted.
+pub const WANTED: &str = "\
+# four bits of a sum
+main: begin
+receive a(val)
+b <- a + 256
+y <- b and 15
+return y
+end
+$
+tables 1 wanted
+unit main
+stage lower
+globals 0
+$
+pass wanted
+wanted 0 4 0 0
+wanted 1 4 0 0
+wanted 2 0 4 0
+wanted 3 0 0 64
+stage wanted
+globals 0
+vars a b y
+received a
+node 0 start 1
+node 1 assign 2 b <- a
+node 2 assign 3 y <- b and 15
+node 3 return - return y
+pass clean
+";

@@ -39,3 +39,21 @@ returns-in-Join g c =
       err = stream_of g.E.Sink.written g.E.Sink.faults c.args.err.now c.further_tables-in-Join.new.err;
       status = c.further_tables-in-Join.result;
     })) (sym c.in-Join.is) c.further_tables-in-Join.ensures
+
+pub returns-in-Bounds : goal.returns-in-Bounds
+returns-in-Bounds g c =
+    subst (λ (k : TableKind). TextPromises k (record {
+      source = stream_of g.S.Source.left g.S.Source.faults c.args.source.now c.further_tables-in-Bounds.new.source;
+      out = stream_of g.K.Sink.written g.K.Sink.faults c.args.out.now c.further_tables-in-Bounds.new.out;
+      err = stream_of g.E.Sink.written g.E.Sink.faults c.args.err.now c.further_tables-in-Bounds.new.err;
+      status = c.further_tables-in-Bounds.result;
+    })) (sym c.in-Bounds.is) c.further_tables-in-Bounds.ensures
+
+pub returns-in-Wanted : goal.returns-in-Wanted
+returns-in-Wanted g c =
+    subst (λ (k : TableKind). TextPromises k (record {
+      source = stream_of g.S.Source.left g.S.Source.faults c.args.source.now c.further_tables-in-Wanted.new.source;
+      out = stream_of g.K.Sink.written g.K.Sink.faults c.args.out.now c.further_tables-in-Wanted.new.out;
+      err = stream_of g.E.Sink.written g.E.Sink.faults c.args.err.now c.further_tables-in-Wanted.new.err;
+      status = c.further_tables-in-Wanted.result;
+    })) (sym c.in-Wanted.is) c.further_tables-in-Wanted.ensures

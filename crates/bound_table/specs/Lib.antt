@@ -1,0 +1,2 @@
+pub mod BoundLines
+pub mod Bounded

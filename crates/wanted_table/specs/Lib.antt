@@ -1,0 +1,2 @@
+pub mod WantedLines
+pub mod Narrowings
