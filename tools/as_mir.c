@@ -1,5 +1,5 @@
 /* The programs mir and mir_tables over the library for C, for comparison with them: the words of the command line and
- * standard input in, and both outputs and the status out. The one word `tables` asks for the tables. */
+ * standard input in, and both outputs and the status out. Behind a first word `tables` stand the words of mir_tables. */
 #include "mir.h"
 
 #include <stdio.h>
@@ -11,8 +11,10 @@ static uint8_t text[1 << 22], words[1 << 16], line[200];
 /* The call that the words ask for, with this room for the output. */
 static uint8_t call(size_t words_length, size_t text_length, uint8_t *out, size_t room, size_t *length,
                     size_t *line_length) {
-    if (words_length == sizeof "tables" && memcmp(words, "tables", sizeof "tables") == 0)
-        return mir_tables_call(text, text_length, out, room, length, line, sizeof line, line_length);
+    size_t first = sizeof "tables";
+    if (words_length >= first && memcmp(words, "tables", first) == 0)
+        return mir_tables_call(words + first, words_length - first, text, text_length, out, room, length, line,
+                               sizeof line, line_length);
     return mir_call(words, words_length, text, text_length, out, room, length, line, sizeof line, line_length);
 }
 

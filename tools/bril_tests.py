@@ -9,7 +9,7 @@ import bril_cases
 import bril_run
 import bril_text
 import mir_text
-from tool_calls import TOP, module_of, ran, told, tool
+from tool_calls import TOP, fewer, module_of, ran, told, tool
 
 EXAMPLES = sorted(TOP.glob('examples/bril/*.bril'))
 DRAWN, STEPS = 300, 20_000
@@ -75,9 +75,11 @@ class Bril(unittest.TestCase):
     def check(self, text: str, every: list[tuple[int, ...]], steps: int = STEPS) -> int:
         """A program in Bril, as MIR, optimised, there and back, and there again, does the same; how many runs ended."""
         plain, _ = self.mir_of(text)
-        texts = [plain, *(self.optimised(plain, command) for command in self.commands)]
-        back = [bril_text.program_json(self.bril_of(each)) for each in texts]
-        texts.append(self.mir_of(bril_text.program_text(bril_text.program(back[-1])))[0])
+        made = [plain, *(self.optimised(plain, command) for command in self.commands)]
+        forms = {each: bril_text.program_json(self.bril_of(each)) for each in dict.fromkeys(made)}
+        again = self.mir_of(bril_text.program_text(bril_text.program(forms[made[-1]])))[0]
+        # the same text is run once
+        texts, back = dict.fromkeys([*made, again]), dict.fromkeys(forms.values())
         ended = 0
         for inputs in (each[:mir_text.program(plain)[0].receives()] for each in every):
             wanted = self.report_of_bril(text, inputs, steps)
@@ -101,13 +103,13 @@ class Bril(unittest.TestCase):
 
     def test_drawn_programs_run_alike(self):
         """Drawn programs, every second one as JSON, with three inputs each; nearly all of the runs end."""
-        ended = 0
-        for number in range(DRAWN):
+        ended, drawn = 0, fewer(range(DRAWN))
+        for number in drawn:
             functions = bril_cases.Drawn(number).functions
             text = (bril_text.program_json if number % 2 else bril_text.program_text)(functions)
             with self.subTest(number):
                 ended += self.check(text, INPUTS)
-        self.assertGreater(ended, DRAWN * 2)
+        self.assertGreater(ended, len(drawn) * 2)
 
     def test_operators(self):
         """Each operator of MIR does in Bril what it does in MIR."""

@@ -11,7 +11,7 @@ import unittest
 import unittest.mock
 from pathlib import Path
 
-from tool_calls import BAD, EXAMPLES, GIVEN, TOOLS, TOP, ran, tool
+from tool_calls import BAD, EXAMPLES, GIVEN, TOOLS, TOP, fewer, ran, tool
 
 
 class CommandLine(unittest.TestCase):
@@ -179,7 +179,9 @@ class Library(unittest.TestCase):
     """The library for C, compiled into programs, and by Python."""
 
     COMMANDS = (['optimise'], ['stages'], ['move'], ['ranges'], ['divisions'], ['tails'], ['join'], ['run', '1000'],
-                ['run', '50', '3', '5'], ['trial', '7', '3'], ['tables'], [], ['no', 'command'], ['run', 'x'])
+                ['run', '50', '3', '5'], ['trial', '7', '3'], [], ['no', 'command'], ['run', 'x'],
+                ['tables'], *(['tables', word] for word in ('optimise', 'divisions', 'tails', 'join', 'x')),
+                ['tables', 'tails', 'join'])
 
     def setUp(self):
         """The library, a folder, and the compilers."""
@@ -214,11 +216,11 @@ class Library(unittest.TestCase):
             self.assertEqual((said.returncode, said.stdout, said.stderr), (0, wanted, b''))
 
     def test_calls_are_as_the_programs(self):
-        """Each command on each example and each refused text has the status and both outputs of the program."""
+        """Each command on examples and on each refused text has the status and both outputs of the program."""
         program = self.compiled(TOOLS / 'as_mir.c', self.compilers[0])
-        for text in [*(path.read_text('latin-1') for path in EXAMPLES), *BAD, '', '\xff']:
+        for text in [*(path.read_text('latin-1') for path in fewer(EXAMPLES)), *BAD, '', '\xff']:
             for words in self.COMMANDS:
-                other = [GIVEN.tables] if words == ['tables'] else [GIVEN.mir, *words]
+                other = [GIVEN.tables, *words[1:]] if words[:1] == ['tables'] else [GIVEN.mir, *words]
                 if other[0]:
                     said, wanted = ran([program, *words], text), ran(other, text)
                     self.assertEqual((said.returncode, said.stdout, said.stderr),
@@ -229,7 +231,9 @@ class Library(unittest.TestCase):
         alone, and all memory is given back."""
         wrapped = [f'-Wl,--wrap={name}' for name in ('malloc', 'realloc', 'free')]
         rows = ran([self.compiled(TOOLS / 'no_memory.c', self.compilers[0], *wrapped)]).stdout.decode().splitlines()
-        self.assertEqual(len(rows), 4)
+        names = ('optimise', 'tables', 'tables divisions', 'tables tails', 'tables join')
+        self.assertEqual([row.split(':')[0] for row in rows],
+                         [f'{name}, {how}' for name in names for how in ('one alone', 'all from one on')])
         for row in rows:
             self.assertLessEqual(set(re.findall(r'status (\d+)', row)), {'0', '7', '8'})
             self.assertIn('status 8', row)
@@ -252,7 +256,15 @@ class Library(unittest.TestCase):
             text = path.read_text('utf-8', 'surrogateescape')
             self.assertEqual(mir.optimise(text), ran([GIVEN.mir, 'optimise'], path.read_text('latin-1')).stdout.decode())
         self.assertEqual(mir.run('main: begin\nreceive a(val)\nx <- a + 1\nreturn x\nend\n', 10, 4), 'result 5\nevals 1\n')
-        self.assertTrue(mir.tables('main: begin\nend\n').startswith('tables 1\n'))
+        text = (TOP / 'examples/helpers.mir').read_text()
+        for words in ([], ['divisions'], ['tails'], ['join']):
+            said = mir.tables(text, *words)
+            self.assertEqual(said.split('\n')[0], ' '.join(['tables 1', *words]))
+            if GIVEN.tables:
+                self.assertEqual(said, ran([GIVEN.tables, *words], text).stdout.decode())
+        with self.assertRaises(mir.Refused) as refused:
+            mir.tables(text, 'move')
+        self.assertEqual((refused.exception.line, refused.exception.status), (None, 1))
         for text, line, status, message in (('main: begin\ngoto L\nend\n', 2, 2, 'line 2: no such label'),
                                             ('', None, 2, 'no unit')):
             with self.assertRaises(mir.Refused) as refused:

@@ -17,7 +17,10 @@ TOP = Path(__file__).resolve().parent.parent
 CRATES = TOP / 'crates'
 
 # How often a look is taken at what the kit has made, in seconds.
-PAUSE = 0.05
+PAUSE = 0.2
+
+# The seconds of processors of what was ended before its time.
+USED: list[float] = []
 
 # Code of fewer bytes is the one by which the kit tries its clang, before it compiles the crate.
 TRIAL_SIZE = 100_000
@@ -25,9 +28,9 @@ TRIAL_SIZE = 100_000
 # For which machine clang compiles here.
 TARGET = ('--target=x86_64-unknown-linux-gnu', '-march=x86-64')
 
-# The program whose code has all that is made without proof: the programs, and the exports of the library, since a library
-# is not built without proof and a program's code has no exports. Its `main` calls each of them, so that they are there.
-SCRATCH = 'mir_exports'
+# The crate whose code has all that is made without proof: the programs, the exports of the library, and the tests of
+# crates. One test of it calls all that is no test, so that it is there.
+SCRATCH, ALL = 'mir_all', 'all_that_is_no_test'
 PROGRAMS = ('mir_main', 'mir_tables')
 EXPORT = re.compile(r'#\[unsafe\(no_mangle\)\]\npub extern "C" fn (\w+)\(([^)]*)\)')
 VALUES = {'Global': 'rt.alloc()', '&[u8]': 'b""', '&mut [u8]': '&mut [0u8; 1]', '&mut usize': '&mut 0'}
@@ -63,17 +66,38 @@ def clang(*words) -> bytes:
 
 def whole_code(room: Path) -> list[Path]:
     """The code that stands whole in a room: clang, which reads it, has begun to write what it makes of it."""
-    return [path for path in room.rglob('*.bc') if any(path.parent.glob('*.o*')) and path.stat().st_size > TRIAL_SIZE]
+    try:
+        return [path for path in room.rglob('*.bc') if any(path.parent.glob('*.o*')) and path.stat().st_size > TRIAL_SIZE]
+    except FileNotFoundError:
+        return []  # a folder went while it was read
+
+
+def children_of(process: int) -> list[int]:
+    """The processes that a process has started and that run."""
+    return [int(one) for one in Path(f'/proc/{process}/task/{process}/children').read_text().split()]
+
+
+def used_below(process: int) -> float:
+    """The seconds of processors that the children of a process have taken so far: of one that is ended before it is waited
+    for, nothing else tells them."""
+    used = 0
+    for child in children_of(process):
+        try:
+            fields = Path(f'/proc/{child}/stat').read_text().rpartition(') ')[2].split()
+            used += sum(map(int, fields[11:15]))
+        except OSError:
+            pass  # it has ended
+    return used / os.sysconf('SC_CLK_TCK')
 
 
 def end_hint(rt: int) -> None:
     """Ends the check of names that `rt try` runs beside its work, which tells early what a proof would refuse, and takes
     as long as the work itself. It is a child of that `rt`."""
-    for path in Path(f'/proc/{rt}/task/{rt}/children').read_text().split():
+    for child in children_of(rt):
         try:
-            words = Path(f'/proc/{path}/cmdline').read_bytes().split(b'\0')
+            words = Path(f'/proc/{child}/cmdline').read_bytes().split(b'\0')
             if words[0].endswith(b'/rattle') and b'no function' in words:
-                os.kill(int(path), signal.SIGTERM)
+                os.kill(child, signal.SIGTERM)
         except OSError:
             pass  # it has ended
 
@@ -94,6 +118,7 @@ def kept_code(crate: Path, words: list, room: Path, to_its_end: bool = False) ->
                         os.link(path, kept)
         finally:
             if running.poll() is None:
+                USED.append(used_below(running.pid))
                 running.terminate()
             status = running.wait()
     if not kept.exists() or to_its_end and status:
@@ -142,70 +167,125 @@ def unlisted(crate: str) -> list[str]:
     return sorted(name for name in used - {crate, *uses_of(listed, crate)} if (CRATES / name).is_dir())
 
 
-def crate_of_tests(room: Path, crates: list[str]) -> Path:
-    """The folder of a crate that has these crates with their tests as modules, so that what they share is read and
-    compiled once. As by itself, each may use what its own line in crates.txt has and nothing else."""
-    made = scratch_crate(room, 'all_tests', crates)
-    for crate in crates:
+def crates_with_tests() -> list[str]:
+    """The crates that have tests."""
+    listed = re.findall(r'^(\w+)\b.*:', (TOP / 'crates.txt').read_text(), re.MULTILINE)
+    return [name for name in listed
+            if any('#[test]' in path.read_text() for path in (CRATES / name / 'src').rglob('*.rt'))]
+
+
+def crate_of_all(room: Path, tested: list[str]) -> Path:
+    """The folder of a crate that has as modules the programs and these crates with their tests, and the exports of mir_c,
+    so that what they share is read once. As by itself, a tested crate may use what its own line in crates.txt has and
+    nothing else. The test at the top calls all that is no test, so that it is there."""
+    for crate in tested:
         if unlisted(crate):
             raise Fault(f'{crate} uses {", ".join(unlisted(crate))}, which its line in crates.txt does not have')
-        put_module(crate, 'lib.rt', made / 'src', crates)
-    modules = ''.join(f'pub mod {crate};\n' for crate in crates)
-    (made / 'src/lib.rt').write_text(f'#![tactic(auto)]\n{modules}')
-    return made
-
-
-def crate_of_all(room: Path) -> Path:
-    """The folder of a program that has the exports of mir_c, and the programs as modules with a `main` each."""
-    made = scratch_crate(room, SCRATCH, ['mir_c', *PROGRAMS])
-    text = (CRATES / 'mir_c/src/lib.rt').read_text()
+    modules = [*PROGRAMS, *tested]
+    made = scratch_crate(room, SCRATCH, ['mir_c', *modules])
+    for crate in modules:
+        put_module(crate, 'main.rt' if crate in PROGRAMS else 'lib.rt', made / 'src', modules)
+    for name in PROGRAMS:
+        path = made / 'src' / name / 'mod.rt'
+        path.write_text(path.read_text().replace('\nfn main(', '\npub fn main('))
     calls = ''.join(f'    let _status = {name}({", ".join(VALUES[kind] for kind in kinds)});\n'
                     for name, kinds in exports().items())
-    modules = ''.join(f'mod {name};\n' for name in PROGRAMS)
+    heads = ''.join(f'pub mod {name};\n' for name in modules)
     first, second = PROGRAMS
-    (made / 'src/main.rt').write_text(f"""{text.replace('use mir_call', f'{modules}use mir_call', 1)}
-fn main(rt: HostRuntime) -> std::process::ExitCode {{
+    text = (CRATES / 'mir_c/src/lib.rt').read_text().replace('use mir_call', f'{heads}use mir_call', 1)
+    (made / 'src/lib.rt').write_text(f"""{text}
+#[test]
+fn {ALL}(rt: HostRuntime) -> std::process::ExitCode {{
 {calls}    if _status == 0 {{ {first}::main(rt) }} else {{ {second}::main(rt) }}
 }}
 """)
-    for name in PROGRAMS:
-        put_module(name, 'main.rt', made / 'src', [])
-        path = made / 'src' / name / 'mod.rt'
-        path.write_text(path.read_text().replace('\nfn main(', '\npub fn main('))
     return made
 
 
-def tried_code(room: Path) -> bytes:
-    """The code for LLVM, as text, that `rt try` makes of the programs and of the library for C."""
-    code = kept_code(crate_of_all(room), ['rt', 'try'], room)
+def tried_code(room: Path, tested: list[str]) -> bytes:
+    """The code for LLVM, as text, that `rt try` makes of the programs, of the library for C, and of the tests of these
+    crates."""
+    code = kept_code(crate_of_all(room, tested), ['rt', 'try', '--test'], room)
     return clang(*TARGET, '-S', '-emit-llvm', '-O0', '-x', 'ir', code, '-o', '-')
 
 
 def with_exports(text: bytes) -> bytes:
-    """The code with the exports of the library in the place of `main`."""
-    text = re.sub(rb'^define i32 @main\(', b'define internal i32 @main(', text, flags=re.MULTILINE)
+    """The code with the exports of the library, which can be called from elsewhere."""
     for name in (name.encode() for name in exports()):
         inner = b'@"%s::%s"' % (SCRATCH.encode(), name)
-        text, count = re.subn(rb'^define internal noundef i8 %s\(' % re.escape(inner), b'define zeroext i8 @%s(' % name,
-                              text, flags=re.MULTILINE)
-        if not count:
+        head = b'\ndefine internal noundef i8 %s(' % inner
+        if head not in text:
             raise Fault(f'the code of {SCRATCH} has no {name.decode()}')
-        text = text.replace(inner, b'@' + name)
+        text = text.replace(head, b'\ndefine zeroext i8 @%s(' % name).replace(inner, b'@' + name)
     return text
 
 
 def with_programs(text: bytes, names: list[str]) -> bytes:
-    """The code with a function `main_of_NAME` for each of these programs in the place of `main`: a copy of what the kit
-    has around the `main` of a program."""
-    own, copies = b'"%s::main' % SCRATCH.encode(), []
-    around = re.findall(rb'(?ms)^define [^@\n]*@(?:main|%s\+\w+")\(.*?^}\n' % re.escape(own), text)
-    if len(around) < 2:
-        raise Fault(f'the code of {SCRATCH} has not what the kit puts around a main')
+    """The code with a function `main_of_NAME` for each of these programs: copies of the `main` of the tests, and of what
+    the kit has around a test, with the program in the place of the test."""
+    own, copies = f'{SCRATCH}::{ALL}'.encode(), []
+    heads = b'\ndefine i32 @main(', b'\ndefine internal noundef i32 @"%s+run"(' % own
+    if not all(head in text for head in heads):
+        raise Fault(f'the code of {SCRATCH} has not what the kit puts around a test')
+    main, run = (text[text.index(head):text.index(head) + 100_000].partition(b'\n}\n')[0] + b'\n}\n' for head in heads)
     for name in (name.encode() for name in names):
-        copy = re.sub(rb'define (?:internal )?i32 @main\(', b'define i32 @main_of_%s(' % name, b'\n'.join(around))
-        copy = copy.replace(own + b'+', b'"%s::%s+' % (SCRATCH.encode(), name))
-        copies.append(copy.replace(own + b'"', b'"%s::%s::main"' % (SCRATCH.encode(), name)))
-    return re.sub(rb'^define i32 @main\(', b'define internal i32 @main(', text, flags=re.MULTILINE) + b'\n'.join(copies)
+        called = b'@"%s::%s::main"' % (SCRATCH.encode(), name)
+        copies.append(re.sub(rb'@"[^"]*\+tests"', called[:-1] + b'+run"', main.replace(b'@main(', b'@main_of_%s(' % name)))
+        copies.append(run.replace(b'@"%s+run"' % own, called[:-1] + b'+run"').replace(b'@"%s"' % own, called))
+    return text.replace(heads[0], b'\ndefine internal i32 @main(') + b''.join(copies)
+
+
+# A name in code that a crate or the kit gave, and a constant of it, which stands in one line.
+NAME = re.compile(rb'@(?:"[^"]*"|static\.\d+|\w+)')
+CONSTANT = re.compile(rb'(?m)^(@static\.\d+) = (private unnamed_addr constant .*)\n')
+
+
+def parts_of(text: bytes) -> tuple[bytes, dict[bytes, bytes]]:
+    """Code without its functions, and these by their names."""
+    outside, functions = [], {}
+    for part in text.split(b'\ndefine ')[1:]:
+        end = part.index(b'\n}\n') + 3
+        functions[NAME.search(part)[0]] = b'define ' + part[:end]
+        outside.append(part[end:])
+    return text[:text.index(b'\ndefine ') + 1] + b''.join(outside), functions
+
+
+def callees_first(functions: dict[bytes, bytes], roots: list[bytes]) -> list[bytes]:
+    """The functions that these roots come to, each behind those that it names, but for circles."""
+    found, seen, open_ones = [], set(roots), [(name, None) for name in roots]
+    while open_ones:
+        name, named = open_ones.pop()
+        if named is None:
+            named = iter(dict.fromkeys(NAME.findall(functions[name])))
+        for one in named:
+            if one in functions and one not in seen:
+                seen.add(one)
+                open_ones += [(name, named), (one, None)]
+                break
+        else:
+            found.append(name)
+    return found
+
+
+def merged(text: bytes, roots: list[str]) -> bytes:
+    """The code that these functions come to, in which functions with the same body are one: of what the kit makes for a
+    crate, a tenth of the functions and less than half of the text. At each place where a check may fail it has a function
+    of its own, all alike, and a list of each type has all its functions, also where two types have the same parts."""
+    outside, functions = parts_of(text)
+    one_of, bodies, named, kept = {}, {}, set(), []
+    for name, value in CONSTANT.findall(outside):
+        one_of[name] = bodies.setdefault(value, name)
+    for name in callees_first(functions, [b'@' + root.encode() for root in roots]):
+        body = NAME.sub(lambda found: one_of.get(found[0], found[0]), functions[name])
+        found = name
+        if body.startswith(b'define internal ') and name not in named:
+            found = bodies.setdefault(body.replace(name, b'@'), name)
+        one_of[name] = found
+        if found == name:
+            # what a circle comes back to keeps its name
+            named.update(one for one in NAME.findall(body) if one not in one_of)
+            kept.append(body)
+    return NAME.sub(lambda found: one_of.get(found[0], found[0]), outside) + b'\n'.join(kept)
 
 
 def uses_of(listed: str, crate: str) -> list[str]:
@@ -268,6 +348,14 @@ def linked(made: Path, name: str, to: Path) -> Path:
     """The program of this crate that an object file is with the C code of the kit."""
     ran([*linker(), made, *(kit() / 'c' / name for name in ('libos_c.a', 'liblibc_c.a')), '-lm', '-Wl,--gc-sections',
          f'-Wl,--defsym=main=main_of_{name}', '-o', to])
+    return to
+
+
+def linked_tests(made: Path, to: Path) -> Path:
+    """The program of tests that an object file is, with the kit's checks of addresses."""
+    c = kit() / 'c'
+    ran([*linker(), made, '-Wl,--whole-archive', c / 'asan.a', '-Wl,--no-whole-archive', c / 'libos_c.a', c / 'liblibc_c.a',
+         *('-lm -ldl -lpthread -lrt -Wl,--gc-sections'.split()), '-o', to])
     return to
 
 

@@ -20,14 +20,22 @@ Base = tuple[str, str]
 
 class Layout(NamedTuple):
     """How a type lies in memory, in bytes: the bits of a number, or its parts with their places; an array has one part
-    and says how many of it."""
+    and says how many of it, which may be none."""
 
     size: int
     align: int
     bits: int = 0
     parts: tuple['Layout', ...] = ()
     offsets: tuple[int, ...] = ()
-    count: int = 0
+    count: Optional[int] = None
+
+    def part(self, number: int) -> 'Layout':
+        """The part of this number."""
+        return self.parts[number if self.count is None else 0]
+
+    def offset(self, number: int) -> int:
+        """How far behind its start the part of this number lies."""
+        return self.offsets[number] if self.count is None else number * self.parts[0].size
 
 
 def layout(module: Module, of: str) -> Optional[Layout]:
@@ -80,10 +88,10 @@ def distance(of: Layout, path: tuple[int, ...]) -> Optional[int]:
     """How far from an address the numbers of parts lead, the first of which counts whole types."""
     at = path[0] * of.size
     for number in path[1:]:
-        if not of.parts or not of.count and not 0 <= number < len(of.parts):
+        if not of.parts or of.count is None and not 0 <= number < len(of.parts):
             return None
-        at += number * of.parts[0].size if of.count else of.offsets[number]
-        of = of.parts[0 if of.count else number]
+        at += of.offset(number)
+        of = of.part(number)
     return at
 
 
@@ -93,11 +101,11 @@ def part_at(of: Layout, at: int) -> Optional[tuple[tuple[int, ...], int]]:
     while of.parts:
         if not 0 <= at < of.size:
             return None
-        number = at // of.parts[0].size if of.count else max(
+        number = at // of.parts[0].size if of.count is not None else max(
             each for each, offset in enumerate(of.offsets) if offset <= at)
         path.append(number)
-        at -= number * of.parts[0].size if of.count else of.offsets[number]
-        of = of.parts[0 if of.count else number]
+        at -= of.offset(number)
+        of = of.part(number)
     return (tuple(path), of.bits) if at == 0 else None
 
 
@@ -105,9 +113,8 @@ def numbers_in(of: Layout, at: int = 0) -> Iterator[tuple[int, int]]:
     """The place and the bits of each number of a type."""
     if not of.parts:
         yield at, of.bits
-    for number in range(of.count or len(of.parts)) if of.parts else ():
-        part = of.parts[0 if of.count else number]
-        yield from numbers_in(part, at + (number * part.size if of.count else of.offsets[number]))
+    for number in range(len(of.parts) if of.count is None else of.count):
+        yield from numbers_in(of.part(number), at + of.offset(number))
 
 
 def first_value(parts: object, path: tuple[int, ...]) -> object:

@@ -291,6 +291,25 @@ define i32 @f(i32 %n) {
   ret i32 %9
 }
 ''', [([7], [4066]), ([0], [3996])]),
+    'structures that end with an array of no length': ('''
+%open = type { i32, [0 x i32] }
+@more = internal global { i32, [2 x i32] } { i32 1, [2 x i32] [i32 2, i32 3] }
+@none = internal global %open { i32 4, [0 x i32] zeroinitializer }
+declare void @llvm.memcpy.p0.p0.i64(ptr, ptr, i64, i1)
+define i32 @f(i32 %n) {
+  %p = alloca %open
+  call void @llvm.memcpy.p0.p0.i64(ptr %p, ptr @none, i64 4, i1 false)
+  store i32 %n, ptr getelementptr (%open, ptr @more, i64 0, i32 1, i64 0)
+  %1 = load i32, ptr getelementptr (%open, ptr @more, i64 0, i32 1, i64 1)
+  %2 = load i32, ptr %p
+  %3 = mul i32 %1, 10
+  %4 = add i32 %3, %2
+  %5 = load i32, ptr getelementptr ({ i32, [2 x i32] }, ptr @more, i64 0, i32 1)
+  %6 = mul i32 %5, 100
+  %7 = add i32 %6, %4
+  ret i32 %7
+}
+''', [([7], [734]), ([0], [34])]),
     'an array with typed pointers': ('''
 %list = type { i32, %list* }
 @none = internal global [1 x %list] zeroinitializer
@@ -331,6 +350,8 @@ second:
 
 # What is refused, and the line that tells so.
 REFUSED = {
+    'define i64 @main() {\n  %x = bitcast double 0.000000e+00 to i64\n  ret i64 %x\n}\n':
+        'line 2, in @main: floating point (double)',
     'define i32 @main() {\n  %x = fadd float 1.0, 2.0\n  ret i32 0\n}\n': 'line 2, in @main: floating point (fadd)',
     'define i32 @main(i64 %n) {\n  %p = alloca [4 x i32]\n  %q = getelementptr [4 x i32], ptr %p, i64 0, i64 %n\n'
     '  %x = load i32, ptr %q\n  ret i32 %x\n}\n': 'line 2, in @main: an array',

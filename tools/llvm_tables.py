@@ -21,7 +21,7 @@ class Table(NamedTuple):
 def table_of(module: Module, variable: Variable) -> Optional[Table]:
     """The table that a variable is, where it is one."""
     found = layout(module, variable.type) if variable.is_constant and variable.is_plain and variable.type else None
-    if found is None or not 0 < found.count <= LARGEST or found.parts[0].parts:
+    if found is None or not 0 < (found.count or 0) <= LARGEST or found.parts[0].parts:
         return None
     bits = found.parts[0].bits
     numbers = variable.parts if variable.parts is not None else [0] * found.count

@@ -27,7 +27,7 @@ class ComingIn(unittest.TestCase):
     def test_texts_run_as_they_should(self):
         """Each text of LLVM IR is a program that prints and ends as its function does."""
         for name, (text, runs) in {**llvm_cases.RUNS, **llvm_bit_cases.RUNS}.items():
-            made = ran([tool('from_llvm'), '--entry', 'f'], text)
+            made = told('from_llvm', '--entry', 'f', text=text)
             self.assertEqual(made.returncode, 0, made.stderr)
             source = made.stdout.decode()
             self.assertTrue(mir_text.program(source))
@@ -124,7 +124,7 @@ class FromC(unittest.TestCase):
         said = ran(['opt', '-S', '-opaque-pointers', '-o', '-', '-'], ir)
         if said.returncode or b'ptr' not in said.stdout:
             self.skipTest('opt has one kind of pointers')
-        both = [ran([tool('from_llvm'), '--entry', 'construct'], text) for text in (ir, said.stdout.decode('latin-1'))]
+        both = [told('from_llvm', '--entry', 'construct', text=text) for text in (ir, said.stdout.decode('latin-1'))]
         self.assertEqual(*[each.stdout for each in both])
 
     def test_globals(self):

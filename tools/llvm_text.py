@@ -251,7 +251,8 @@ class Cursor:
         begin = self.at
         self.next()
         group = self.at + (self.peek() == 'inbounds')
-        self.skip_words()
+        if text in EXPRESSIONS:
+            self.skip_words()
         if self.peek() == '(':
             self.skip_group()
         names = [bare(each.text) for each in self.tokens[begin:self.at] if each.kind == 'global']

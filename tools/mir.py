@@ -13,6 +13,7 @@ import functools
 import os
 import re
 from pathlib import Path
+from typing import Optional
 
 HERE = Path(__file__).resolve().parent
 FOLDERS = (os.environ.get('MIR_LIBRARY', HERE), HERE, HERE.parent / 'lib', HERE.parent / 'build')
@@ -36,23 +37,23 @@ def library() -> ctypes.CDLL:
     raise FileNotFoundError(f'there is no libmir.so in {", ".join(dict.fromkeys(map(str, FOLDERS)))}')
 
 
-def asked(name: str, texts: list[bytes], room: int = 1 << 16) -> str:
-    """The output of a call of the library with these words and text, or this text alone."""
+def asked(name: str, text: str, words: tuple, room: int = 1 << 16) -> str:
+    """The output of a call of the library with these words and this text."""
+    texts = [b''.join(str(word).encode() + b'\0' for word in words), text.encode('utf-8', 'surrogateescape')]
     out, line, lengths = ctypes.create_string_buffer(room), ctypes.create_string_buffer(200), (ctypes.c_size_t * 2)()
-    given = [it for text in texts for it in (text, ctypes.c_size_t(len(text)))]
+    given = [it for one in texts for it in (one, ctypes.c_size_t(len(one)))]
     status = getattr(library(), name)(*given, out, ctypes.c_size_t(room), ctypes.byref(lengths, 0), line,
                                       ctypes.c_size_t(200), ctypes.byref(lengths, ctypes.sizeof(ctypes.c_size_t)))
     if status & 255 not in (0, 3, 4):
         raise Refused(status & 255, line.raw[:lengths[1]].decode('utf-8', 'replace').strip())
     if lengths[0] > room:
-        return asked(name, texts, lengths[0])
+        return asked(name, text, words, lengths[0])
     return out.raw[:lengths[0]].decode('utf-8', 'surrogateescape')
 
 
 def call(text: str, *words) -> str:
     """What `mir` writes for a text and these words."""
-    return asked('mir_call', [b''.join(str(word).encode() + b'\0' for word in words),
-                              text.encode('utf-8', 'surrogateescape')])
+    return asked('mir_call', text, words)
 
 
 def optimise(text: str) -> str:
@@ -65,6 +66,7 @@ def run(text: str, steps: int, *inputs: int) -> str:
     return call(text, 'run', steps, *inputs)
 
 
-def tables(text: str) -> str:
-    """What each pass finds out about each node, as `mir_tables` writes it."""
-    return asked('mir_tables_call', [text.encode('utf-8', 'surrogateescape')])
+def tables(text: str, word: Optional[str] = None) -> str:
+    """What each pass finds out about each node, as `mir_tables` writes it with no word, or with `divisions`, `tails` or
+    `join`."""
+    return asked('mir_tables_call', text, () if word is None else (word,))

@@ -36,7 +36,7 @@ def by_node(parts: tuple, data: str, script: str):
 
 def stages_by_node(text: str, script: str, *words: str):
     """What a script tells of the page of a text of stages, which has its stages."""
-    made = ran([tool('show'), '--mir', GIVEN.mir, *words], text)
+    made = told('show', '--mir', GIVEN.mir, *words, text=text)
     if made.returncode:
         raise AssertionError(made.stderr)
     return by_node(stages_page.SCRIPTS, data_on(made.stdout),
@@ -89,7 +89,7 @@ class Drawing(unittest.TestCase):
         for passes, given, refused in (('join x', text, '--passes has a word of no pass, or more than 64'),
                                        ('clean ' * 65, text, '--passes has a word of no pass, or more than 64'),
                                        ('join', 'main: begin\n', 'text ends inside a unit')):
-            said = ran([tool('show'), '--mir', GIVEN.mir, '--passes', passes], given)
+            said = told('show', '--mir', GIVEN.mir, '--passes', passes, text=given)
             self.assertEqual((said.returncode, said.stdout, said.stderr.decode()), (1, b'', f'show: {refused}\n'))
 
     @unittest.skipUnless(shutil.which('node'), 'node is not here')
@@ -283,7 +283,7 @@ class Tables(unittest.TestCase):
 
     def data_of(self, text: str, words: list[str]) -> str:
         """The data on the page of a text of tables with a run."""
-        made = ran([tool('show'), '--mir', GIVEN.mir, '--run', *words], text)
+        made = told('show', '--mir', GIVEN.mir, '--run', *words, text=text)
         self.assertEqual(made.returncode, 0, made.stderr)
         return data_on(made.stdout)
 
@@ -309,7 +309,7 @@ class Tables(unittest.TestCase):
         script = '''const { units } = { units: new TablesReader().read(DATA.text) };
             const programs = units[0].stages.map((_, at) => programText(units, at));
             for (const unit of units) for (const stage of unit.stages) delete stage.lines;
-            console.log(JSON.stringify([units, programs, UNITS[0].stages[1].nodes.map(node => node[OLD])]));'''
+            console.log(JSON.stringify([units, programs, UNITS[0].passes[0].old]));'''
         for name, text in self.TEXTS.items():
             units, programs, old = self.found_by_node(json.dumps({'text': text, 'name': name}), script)
             read = tables_text.Reader().read(text)
@@ -357,7 +357,7 @@ class Tables(unittest.TestCase):
                 self.assertEqual(report, ran([GIVEN.mir, 'run', *words], text).stdout.decode().splitlines())
         for words in (['100', '1'], ['x', '1', '2'], ['1000001', '1', '2'], ['100', '1', 'y']):
             refused = ran([GIVEN.mir, 'run', *words], (TOP / 'examples/diamond.mir').read_text()).stderr.decode()
-            said = ran([tool('show'), '--mir', GIVEN.mir, '--run', *words], self.TEXT)
+            said = told('show', '--mir', GIVEN.mir, '--run', *words, text=self.TEXT)
             self.assertEqual((said.returncode, said.stdout, said.stderr.decode()), (1, b'', f'show: {refused}'))
 
     @unittest.skipUnless(shutil.which('node'), 'node is not here')
@@ -382,7 +382,7 @@ class Tables(unittest.TestCase):
         has a path on which it is not known, or two on which it has two values."""
         for name, text in self.TEXTS.items():
             with self.subTest(name):
-                data = data_on(ran([tool('show')], text).stdout)
+                data = data_on(told('show', text=text).stdout)
                 varying, wrong = self.found_by_node(data, STATES)
                 self.assertTrue(varying)
                 self.assertEqual(wrong, [])
@@ -393,7 +393,7 @@ class Tables(unittest.TestCase):
         what the page finds by itself, and where one edge is told otherwise it says so."""
         for name, text in self.TEXTS.items():
             with self.subTest(name):
-                data = data_on(ran([tool('show')], text).stdout)
+                data = data_on(told('show', text=text).stdout)
                 expressions, found, turned = self.found_by_node(data, EDGES)
                 self.assertTrue(expressions)
                 self.assertEqual(found, [])

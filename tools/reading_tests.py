@@ -1,5 +1,5 @@
-"""Tests of what the tools read and write as text, of docs/check on pages that are right and wrong, and of compiled
-programs beside `mir run`."""
+"""Tests of what the tools read and write as text, of docs/check on pages that are right and wrong, of code that is merged,
+and of compiled programs beside `mir run`."""
 
 import contextlib
 import importlib.machinery
@@ -7,14 +7,16 @@ import importlib.util
 import io
 import itertools
 import random
+import re
 import shutil
 import tempfile
 import unittest
 import unittest.mock
 from pathlib import Path
 
+import kit_code
 import mir_text
-from tool_calls import BAD, EXAMPLES, GIVEN, ODD, TOP, module_of, ran, stages_of, told, tool
+from tool_calls import BAD, EXAMPLES, GIVEN, ODD, TOP, fewer, module_of, ran, stages_of, told, tool
 
 INPUTS = (-2 ** 63, -3, 0, 1, 2, 7)
 STEPS = '100000'
@@ -66,8 +68,42 @@ class Reading(unittest.TestCase):
     def test_pages_are_made_of_stages_alone(self):
         """A program in the place of stages, and nothing at all, are refused in one line."""
         for text in ('', ODD, 'main: begin\nend\n', '|| source\n?\n', '|| source\nmain: begin\nend\n'):
-            said = ran([tool('show')], text)
+            said = told('show', text=text)
             self.assertEqual((said.returncode, said.stdout, said.stderr.count(b'\n')), (1, b'', 1))
+
+
+class Code(unittest.TestCase):
+    """Code that is merged before it is compiled."""
+
+    def code(self, *functions: tuple[str, str]) -> bytes:
+        """Code with functions of these names that have these lines, and with two constants of one value."""
+        return ('head\n@static.1 = private unnamed_addr constant i8 7\n@static.2 = private unnamed_addr constant i8 7\n'
+                + ''.join(f'\n; A\ndefine {"" if name == "f" else "internal "}void @"{name}"() {{\n{lines}}}\n'
+                          for name, lines in functions) + '\ndeclare void @no()\n').encode()
+
+    def names(self, code: bytes) -> list[str]:
+        """The functions of code."""
+        return re.findall(r'(?m)^define .*@"(.*?)"', code.decode())
+
+    def test_equal_functions_are_one(self):
+        """Of functions with the same body, also by those that they call, one stays; what nothing calls goes."""
+        made = kit_code.merged(self.code(
+            ('f', 'call @"a"\ncall @"b"\ncall @"other"\n'), ('a', 'call @"site 1"\nload @static.1\n'),
+            ('b', 'call @"site 2"\nload @static.2\n'), ('site 1', 'trap\n'), ('site 2', 'trap\n'),
+            ('other', 'call @"site 2"\nload 7\n'), ('unused', 'call @"f"\n')), ['"f"'])
+        self.assertEqual(len(self.names(made)), 4)
+        calls = re.findall(r'call @"(.*?)"', made.decode().partition('@"f"()')[2])
+        self.assertEqual((calls[0], calls[2]), (calls[1], 'other'))
+        self.assertIn(b'declare void @no()', made)
+
+    def test_circles_stay_whole(self):
+        """Each name that is called has a function, also where functions call one another in a circle."""
+        circle = [(f'{name} {at}', f'call @"{called} {at}"\n') for at in (1, 2) for name, called in (('up', 'down'), ('down', 'up'))]
+        alone = [(f'alone {at}', f'call @"alone {at}"\n') for at in (1, 2)]
+        made = kit_code.merged(self.code(('f', ''.join(f'call @"{name}"\n' for name, _ in circle + alone)), *circle, *alone), ['"f"'])
+        self.assertEqual(set(re.findall(r'call @"(.*?)"', made.decode())) | {'f'}, set(self.names(made)))
+        body = made.decode().partition('@"f"()')[2].partition('}')[0]
+        self.assertEqual(len(set(re.findall(r'call @"alone \d"', body))), 1)
 
 
 class Pages(unittest.TestCase):
@@ -128,6 +164,17 @@ class Pages(unittest.TestCase):
         for words in self.check.NOT_RUN + self.check.OF_TOOLS:
             self.assertIn(words, self.check.__doc__)
 
+    def test_words_are_looked_up_where_they_are_said_to_stand(self):
+        """A word is looked up in the crate or the file that is named beside it, and a file in its crate."""
+        page = TOP / 'docs/page.md'
+        for text, is_right in (('`narrow` of\n`wanted_bits`', True), ('`narrow` and `jump_past` of `wanted_bits`', False),
+                               ('`after_call` of `cond_flow/specs/Passing.antt`', True), ('`after_call` of `Wanted.antt`', False),
+                               ('`IsNarrowed` (`specs/Narrowed.antt`)', True), ('`IsNarrowed`, `specs/Shifts.antt`', False),
+                               ('`narrow` (`specs/Shifts.antt`)', True), ('`narrowing.rt` of `wanted_bits`', True),
+                               ('`narrowing.rt` of `copy_flow`', False), ('clause `most` of `narrow_in`', True),
+                               ('clause `narrow_in` of `rows_of_narrowing`', False)):
+            self.assertEqual(not list(self.check.references.misplaced(page, text)), is_right, text)
+
     def test_named_tests_are_looked_up(self):
         """Of each remark that a page names there is one in the file that it names, and none of another."""
         text = '*Test*: `row_examples.rt`, "the diamond" and\n"no such remark".'
@@ -153,12 +200,13 @@ class Compiling(unittest.TestCase):
         """Each example, and what the optimiser makes of it, for a few inputs."""
         draw = random.Random(7)
         with tempfile.TemporaryDirectory() as folder:
-            for path in EXAMPLES:
+            for path in fewer(EXAMPLES):
                 source = mir_text.read_input(str(path))
-                for text in (source, ran([GIVEN.mir, 'optimise'], source).stdout.decode('latin-1')):
+                texts = (source, ran([GIVEN.mir, 'optimise'], source).stdout.decode('latin-1'))
+                # the same code is compiled once
+                for code, text in {module_of('to_llvm').llvm(text): text for text in texts}.items():
                     program = str(Path(folder) / 'program')
-                    said = ran(['clang', '-O2', '-Wno-override-module', '-x', 'ir', '-', '-o', program],
-                               module_of('to_llvm').llvm(text))
+                    said = ran(['clang', '-O2', '-Wno-override-module', '-x', 'ir', '-', '-o', program], code)
                     self.assertEqual(said.returncode, 0, said.stderr)
                     inputs = list(itertools.product(INPUTS, repeat=mir_text.program(text)[0].receives()))
                     for words in draw.sample(inputs, min(len(inputs), 8)):

@@ -10,10 +10,11 @@ from mir_text import Fault
 
 KINDS = ('start', 'skip', 'assign', 'print', 'guard', 'call', 'test', 'return')
 ITEMS = {'expression': ('motion', 'divisions'), 'copy': ('copies',), 'pattern': ('sink',), 'variable': ('prune',)}
-PASSES = ('clean', 'fold', 'number', 'copies', 'split', 'motion', 'sink', 'prune', 'divisions', 'tails', 'join')
+PASSES = ('clean', 'fold', 'number', 'copies', 'split', 'motion', 'sink', 'prune', 'divisions', 'tails', 'join',
+          'bounds', 'wanted')
 
 # The first line of a text, with the word of the command whose tables it has; none stands for `optimise`.
-HEAD = re.compile(r'^tables 1(?: (?:divisions|tails|join))?$', re.MULTILINE)
+HEAD = re.compile(r'^tables 1(?: (?:divisions|tails|join|bounds|wanted))?$', re.MULTILINE)
 
 # What a call is in tail position or not, or what becomes of it.
 POSITIONS = ('loop', 'tail', 'dropped', 'global', 'then', 'joined', 'stays')
@@ -166,6 +167,14 @@ class Reader:
         if int(number) != len(states):
             raise Fault('out of order')
         states.append(None if values == ['unreached'] else values)
+
+    def line_wanted(self, rest: str) -> None:
+        """How many bits are wanted before a node."""
+        number, *bits = rest.split()
+        wanted = self.facts.setdefault('wanted', [])
+        if int(number) != len(wanted):
+            raise Fault('out of order')
+        wanted.append([int(one) for one in bits])
 
     def line_term(self, rest: str) -> None:
         """A term."""

@@ -10,12 +10,14 @@ import sys
 import types
 import unittest.mock
 from pathlib import Path
+from typing import Sequence
 
 TOOLS = Path(__file__).resolve().parent
 TOP = TOOLS.parent
 
-# The programs that are tried, and the folder of the library for C.
-GIVEN = types.SimpleNamespace(mir=str(TOP / 'mir'), tables='', library=TOP / 'build')
+# The programs that are tried, the folder of the library for C, whether fewer texts of a kind do, and whether what a page says
+# of the examples is put there.
+GIVEN = types.SimpleNamespace(mir=str(TOP / 'mir'), tables='', library=TOP / 'build', few=False, write=False)
 
 EXAMPLES = sorted(TOP.glob('examples/*.mir'))
 
@@ -70,6 +72,11 @@ BAD = {
 def ran(words: list[str], text: str = '') -> subprocess.CompletedProcess:
     """A finished call, its streams as text."""
     return subprocess.run(words, input=text.encode('latin-1'), capture_output=True, timeout=600)
+
+
+def fewer(texts: Sequence) -> Sequence:
+    """Texts of a kind: where fewer do, each fifth of them."""
+    return texts[::5] if GIVEN.few else texts
 
 
 def tool(name: str) -> str:

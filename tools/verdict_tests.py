@@ -14,7 +14,7 @@ import page_tests
 import tables_page
 import tables_text
 from page_tests import by_node, data_on
-from tool_calls import EXAMPLES, GIVEN, TOP, ran, stages_of, tool
+from tool_calls import EXAMPLES, GIVEN, TOP, ran, stages_of, told, tool
 
 
 # Behind the scripts of a page of tables, of many texts by their names: how many sentences of verdicts there are of each
@@ -146,6 +146,9 @@ class Verdicts(unittest.TestCase):
             'step: calls + 1': 'calls + 1 stays at 1. No path evaluates it twice, so there is nothing to save.'},
     }
 
+    # What is said of each example.
+    WORDS = TOP / 'examples/verdicts.txt'
+
     # A global that a call may change between two uses of it.
     LIMIT = """global limit
 main: begin
@@ -190,9 +193,13 @@ end
             self.assertGreater(found['kinds'].get(says, 0), 9, says)
 
     def test_words(self):
-        """What is said of some examples is what was written here by hand."""
-        texts = {name: mir_text.read_input(str(TOP / f'examples/{name}.mir')) for name in self.SAID}
+        """What is said of each example is what examples/verdicts.txt has, and of some what was written here by hand."""
+        texts = {path.stem: mir_text.read_input(str(path)) for path in EXAMPLES}
         found = self.told_of({**texts, 'limit': self.LIMIT}, WORDS)
+        lines = [[name, *(f'  {what.split(": ")[0]}: {words}' for what, words in found[name].items())] for name in texts]
+        if GIVEN.write:
+            self.WORDS.write_text('\n'.join(sum(lines, [])) + '\n', encoding='utf-8')
+        self.assertEqual(self.WORDS.read_text(encoding='utf-8').splitlines(), sum(lines, []))
         for name, said in self.SAID.items():
             self.assertEqual({item: found[name].get(item) for item in said}, said)
         self.assertEqual(found['limit']['main: a + limit'], 'a + limit stays at 1 and 3. At 1 it stays: no path '
@@ -246,7 +253,7 @@ end
 class OtherCommands(unittest.TestCase):
     """The tables of divisions, tails and join on the page, beside the graph alone and beside words written by hand."""
 
-    DRAWN = 200
+    DRAWN = 500
 
     # Of each command which sentences there are to be, and what is said of some units of examples.
     SAID = {
@@ -262,9 +269,11 @@ class OtherCommands(unittest.TestCase):
             'tail_sum': 'main: 4 calls the unit itself, and its answer is returned next: it becomes a jump to the beginning, '
                         'behind assignments of the arguments.',
             'tail_kept': 'main: 3 stays: next comes 4, which does not return its answer.'}),
-        'join': (('joined', 'stays'), {
+        'join': (('joined', 'stays', 'leaf', 'none'), {
             'helpers': 'main: 2 calls scaled, a leaf of 5 instructions: the code of it stands there now.',
-            'factorial': 'main: 3 stays: main is no leaf, since it calls main.'}),
+            'factorial': 'main: 3 stays: main is no leaf, since it calls main.',
+            'tail_sum': 'main: main is no leaf, since it calls main.',
+            'diamond': 'main: main is a leaf: it has 10 instructions, and calls no unit.'}),
     }
 
     def setUp(self):
@@ -294,7 +303,7 @@ class OtherCommands(unittest.TestCase):
         one has its line in the whole."""
         text = mir_text.read_input(str(TOP / 'examples/helpers.mir'))
         texts = [ran([GIVEN.tables, *words], text).stdout.decode('latin-1') for words in ([], *([word] for word in self.SAID))]
-        made = ran([tool('show'), '--name', 'helpers'], ''.join(texts))
+        made = told('show', '--name', 'helpers', text=''.join(texts))
         self.assertEqual(made.returncode, 0, made.stderr)
         words = by_node(tables_page.MODEL, data_on(made.stdout), '''takeProgram(DATA);
             console.log(JSON.stringify(COMMANDS.map(({ word }, at) => {
@@ -304,7 +313,7 @@ class OtherCommands(unittest.TestCase):
         self.assertEqual(words, [[word, ['main', 'scaled', 'clamped']] for word in ('optimise', *self.SAID)])
         lines = ''.join(texts).split('\n')
         at = lines.index('tables 1 join') + 1
-        said = ran([tool('show')], '\n'.join([*lines[:at], 'body main x leaf', *lines[at + 1:]]))
+        said = told('show', text='\n'.join([*lines[:at], 'body main x leaf', *lines[at + 1:]]))
         self.assertEqual((said.returncode, said.stderr.decode()), (1, f'show: line {at + 1}: unexpected\n'))
 
 
@@ -338,9 +347,12 @@ class Exercises(unittest.TestCase):
         there."""
         text = (TOP / 'examples/README.md').read_text().split('## Exercises')[1]
         self.assertEqual(re.findall(r'(?m)^(\d+)\. ', text), [str(number) for number in range(1, 11)])
-        for_passes, for_commands = (re.findall(r'(?m)^\| `(\w+)` \|', part) for part in
-                                    text.split('### Two for each pass')[1].split('### One for each command'))
-        self.assertEqual(for_passes, [name for name in tables_text.PASSES if name not in ('divisions', 'tails', 'join')])
+        parts = re.split(r'(?m)^### (?:Two|One) for each .*$', text)[1:]
+        for_passes, further, for_commands = (re.findall(r'(?m)^\| `(\w+)` \|', part) for part in parts)
+        self.assertEqual(for_passes, [name for name in tables_text.PASSES
+                                      if name not in ('divisions', 'tails', 'join', 'bounds', 'wanted')])
+        words = re.search(r"local passes='(.*)'", (TOP / 'tools/completion/mir.bash').read_text())[1].split()
+        self.assertEqual(set(further), set(words) - {*for_passes, 'optimise'})
         usage = ran([GIVEN.mir]).stderr.decode().removeprefix('usage: mir ').split(' | ')
         self.assertEqual(sorted(for_commands), sorted(form.split()[0] for form in usage))
         examples = {path.stem for path in EXAMPLES}

@@ -1,9 +1,9 @@
 // ---- what a text of tables does not say, and is worked out beside it: which node of the stage before a node was, ends
 // of chains, what is held up, where a pattern occurs and a variable is live behind a node, and the terms of right sides
 
-// Gives an object a value that is made when it is first asked for.
+// Gives an object a value that is made when it is first asked for, and answers the object.
 function lazily(object, name, make) {
-  Object.defineProperty(object, name, { configurable: true, enumerable: true, get() {
+  return Object.defineProperty(object, name, { configurable: true, enumerable: true, get() {
     const value = make();
     Object.defineProperty(object, name, { value, writable: true, enumerable: true });
     return value;
@@ -26,22 +26,32 @@ function reachedBeyondCalls(nodes, calls, units, at) {
 // A string of bits, one for each node.
 const bitsFor = (nodes, holds) => nodes.map(node => holds(node) ? '1' : '0').join('');
 
-// Puts beside what was read of a pass what the page has at hand.
+// Puts beside what was read of a pass what the page has at hand, to be made when it is asked for; `old` has of each node
+// behind it the number that it had before.
 function complete(unit, facts, at, units) {
-  const before = unit.stages[at], after = unit.stages[at + 1], { items } = facts;
-  let old = before.nodes.map((_, n) => n);
-  if (facts.name === 'clean') [old, facts.ends] = cleaned(before.nodes);
-  if (facts.name === 'fold') old = old.filter(n => facts.states?.[n]);
-  if (facts.calls) old = reachedBeyondCalls(before.nodes, facts.calls, units, at);
-  after.nodes.forEach((node, number) => { node[OLD] = old[number] ?? null; });
+  const before = unit.stages[at], after = unit.stages[at + 1], { items } = Object.getOwnPropertyDescriptors(facts);
+  lazily(facts, 'old', () => oldNumbers(facts, at, unit, units));
   if (facts.name === 'number') lazily(facts, 'rights', () => rightsOf(before, after, facts));
-  if (facts.name === 'sink') {
-    const moving = new Set((items ?? []).map(item => item.text));
-    lazily(facts, 'settled', () => settledOf(before.nodes, moving));
-    if (items) lazily(facts, 'items', () => items.map(item => withOccurs(before.nodes, item)));
+  if (facts.name === 'prune') lazily(facts, 'items', () => items.get()?.map(item => withLiveAfter(before.nodes, item)));
+  if (facts.name === 'clean') {
+    lazily(facts, 'cleaned', () => cleaned(before.nodes));
+    lazily(facts, 'ends', () => facts.cleaned[1]);
   }
-  if (facts.name === 'prune' && items)
-    lazily(facts, 'items', () => items.map(item => withLiveAfter(before.nodes, item)));
+  if (facts.name === 'sink') {
+    lazily(facts, 'settled', () => settledOf(before.nodes, new Set((facts.items ?? []).map(item => item.text))));
+    lazily(facts, 'items', () => items.get()?.map(item => withOccurs(before.nodes, item)));
+  }
+  return facts;
+}
+
+// Of each node behind a pass its number before it, or null where it is new.
+function oldNumbers(facts, at, unit, units) {
+  const before = unit.stages[at].nodes, after = unit.stages[at + 1].nodes;
+  let old = null;
+  if (facts.name === 'clean') [old] = facts.cleaned;
+  if (['fold', 'bounds'].includes(facts.name)) old = range(before.length).filter(n => facts.states?.[n]);
+  if (['tails', 'join'].includes(facts.name) && facts.calls) old = reachedBeyondCalls(before, facts.calls, units, at);
+  return after.map((_, number) => (old ? old[number] : number < before.length ? number : null) ?? null);
 }
 
 // A pattern with the nodes at which it occurs.
@@ -55,17 +65,21 @@ function withLiveAfter(nodes, item) {
   return { ...item, rows: { ...item.rows, 'live after': after } };
 }
 
-// The end of the chain of Skips from each node.
+// The end of the chain of Skips from each node; of a chain that turns in a loop the least node of it.
 function endsOf(nodes) {
-  return nodes.map((_, first) => {
-    const seen = [];
+  const ends = [], begun = [];
+  nodes.forEach((_, first) => {
+    const way = [];
     let n = first;
-    while (nodes[n][KIND] === 'skip' && !seen.includes(n)) {
-      seen.push(n);
+    while (ends[n] === undefined && begun[n] !== first && nodes[n][KIND] === 'skip') {
+      begun[n] = first;
+      way.push(n);
       n = nodes[n][SUCCS][0];
     }
-    return seen.includes(n) ? Math.min(...seen.slice(seen.indexOf(n))) : n;
+    ends[n] ??= begun[n] === first ? Math.min(...way.slice(way.indexOf(n))) : n;
+    for (const one of way) ends[one] = ends[n];
   });
+  return ends;
 }
 
 // The nodes that are left where jumps are cleaned, in order, and the ends of chains at first and at last.
@@ -74,7 +88,7 @@ function cleaned(all) {
   let last = first;
   const isEqual = node => node[KIND] === 'test' && new Set(node[SUCCS].map(s => last[s])).size === 1;
   for (let equal = where(nodes.map(isEqual)); equal.length; equal = where(nodes.map(isEqual))) {
-    for (const n of equal) nodes[n] = ['skip', nodes[n][SUCCS].slice(0, 1), ...nodes[n].slice(OLD)];
+    for (const n of equal) nodes[n] = ['skip', nodes[n][SUCCS].slice(0, 1), ...nodes[n].slice(2)];
     last = endsOf(nodes);
   }
   const reached = new Set([0]);

@@ -56,7 +56,7 @@ class Boxes {
   }
 
   // How high the picture is.
-  high() { return Number(wholes(heightOf(this.sizes, this.ends))); }
+  high() { return this.height ??= Number(wholes(heightOf(this.sizes, this.ends))); }
 
   // The places of the nodes, the ways of the edges, and the frames of the blocks of many nodes.
   picture() {

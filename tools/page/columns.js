@@ -18,6 +18,24 @@ const COLUMNS = {
         why(last), 'at last')];
   },
 
+  bounds(pass) {
+    const states = pass.facts.states || [];
+    const reached = column('reached', states.map(one => one !== null),
+      'A node is reached where some edge passes a state to it; a test passes one along the ways that it may take.',
+      n => ({ yes: states[n] !== null, html: states[n] !== null ? `Node ${N(n)} is reached.`
+        : `No edge passes a state to ${N(n)}: it is dropped.` }));
+    return [reached, ...pass.before.vars.map((name, v) => values(name, states.map(one => one ? one[v] : ''),
+      `Between which numbers the value of ${code(name)} lies before the node; an end that is left out is the least or the greatest number of all.`,
+      n => ({ html: states[n] === null ? `No run comes to ${N(n)}.` : `Before ${N(n)} ${code(name)} is ${states[n][v]}.` })))];
+  },
+
+  wanted(pass) {
+    const wanted = pass.facts.wanted || [];
+    return pass.before.vars.map((name, v) => values(name, wanted.map(one => String(one[v])),
+      `How many of the lowest bits of ${code(name)} can still matter before the node.`,
+      n => ({ html: `Before ${N(n)} the ${wanted[n][v]} lowest bits of ${code(name)} can matter.` })));
+  },
+
   fold(pass) {
     const states = pass.facts.states || [];
     const { into } = edgesOf(pass.before);

@@ -144,8 +144,13 @@ class Calling {
   }
 }
 
-// What is said of a call.
+// What is said of a unit, by the nodes that are reached, and of a call. Of a unit that is no leaf the call that makes it none
+// may be one that is not reached.
 Object.assign(SAYS, {
+  leaf: (calling, { name, count }) => name === calling.unit.name && calling.isCallFree(name) && count <= 32
+    && calling.unit.stages[0].nodes.filter(node => !['start', 'skip', 'return'].includes(node[0])).length <= count,
+  none: (calling, { name, count, isLong, calls }) => name === calling.unit.name && isLong === count > 32
+    && (isLong || UNITS.some(unit => unit.name === calls)),
   loop: (calling, { n, name }) => (one => one.callee === name && name === calling.unit.name && one.returns
     && !calling.globals.includes(one.into))(calling.at(n)),
   tail: (calling, { n, name }) => (one => one.callee === name && name !== calling.unit.name && one.returns)(calling.at(n)),

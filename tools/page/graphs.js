@@ -3,16 +3,20 @@
 // The units of the program, each with the program: its name, and runs of it with their reports.
 let UNITS = [];
 
-// The texts of the commands of `mir` whose tables there are, each with the units that are read of it when it is shown.
+// The commands of `mir` whose tables there are, each with its text and the units that are read of it when it is shown.
+// Where `words` names commands, all of these are there, though one alone has a text: another is asked for by `choose`,
+// which brings its text by another `load`.
 let COMMANDS = [];
-function takeProgram({ text, name, runs = [] }) {
-  COMMANDS = textsOf(text).map((one, at) => ({ ...one, program: { name, runs: at ? [] : runs }, units: null }));
-  takeCommand(0);
+function takeProgram({ text, name, runs = [], words = null, choose }) {
+  const found = textsOf(text).map((one, at) => ({ ...one, program: { name, runs: at ? [] : runs }, units: null }));
+  COMMANDS = words?.map(word => ({ ...found.find(one => one.word === word) ?? { word, text: null },
+    choose: () => choose(word) })) ?? found;
+  takeCommand(COMMANDS.findIndex(one => one.text !== null));
 }
 function takeCommand(at) {
   const command = COMMANDS[at];
   command.units ??= readTables(command.text).map((unit, number) =>
-    ({ ...unit, program: command.program, first: number === 0 }));
+    Object.assign(unit, { program: command.program, first: number === 0 }));
   UNITS = command.units;
 }
 
@@ -40,6 +44,8 @@ const SAY = {
   motion: ['motion', 'Each expression is evaluated as late as can be and, on every path, as rarely as any admissible placement can.'],
   divisions: ['divisions', 'Each division is evaluated as late as can be and as rarely as can be, where each run is sure to come to it before anything is seen.'],
   tails: ['tails', 'A call of the unit itself whose answer is returned next becomes a jump to its beginning.'],
+  bounds: ['bounds', 'Where the value of a variable lies between two numbers, tests and trap instructions may be decided, and right sides known.'],
+  wanted: ['wanted', 'Assignments of which no bit can matter go, and so do operators and shifts that change no bit that can.'],
   join: ['join', 'A call of a leaf, a small unit that calls none, becomes the code of that unit.'],
   sink: ['sink', 'An assignment is put off along each path to where its value is needed.'],
   prune: ['prune', 'An assignment whose variable nobody reads before it is assigned again goes away.'],
@@ -106,9 +112,9 @@ function parsed(node) {
 // The edges of a stage both ways.
 function edgesOf(stage) {
   if (!stage.edges) {
-    const into = stage.nodes.map(() => []);
-    stage.nodes.forEach((node, n) => node[1].forEach(s => { if (!into[s].includes(n)) into[s].push(n); }));
-    Object.defineProperty(stage, 'edges', { value: { out: stage.nodes.map(node => [...new Set(node[1])]), into } });
+    const into = stage.nodes.map(() => []), out = stage.nodes.map(([, succs]) => succs[0] === succs[1] ? succs.slice(1) : succs);
+    out.forEach((those, n) => { for (const s of those) into[s].push(n); });
+    Object.defineProperty(stage, 'edges', { value: { out, into } });
   }
   return stage.edges;
 }

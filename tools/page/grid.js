@@ -64,25 +64,59 @@ function valueCell(one, at, n) {
   return `<td class="val ${one.wide ? 'wide' : ''} ${one.marks ? 'marks' : ''} ${one.values[n] === '?' ? 'varying' : ''}" ${base} title="${esc(one.values[n])}">${esc(one.values[n])}</td>`;
 }
 
-function showTable(pass) {
+// The rows that are drawn, of all rows of a table from one up to another. Of a long table these are the ones about the row
+// of now, or about what is in sight where the reader scrolls.
+const drawn = { rows: [], from: 0, to: 0 };
+const rowsAbout = () => Math.max(40, Math.ceil(window.innerHeight / 20));
+
+// Chooses which rows are drawn, where one of them is in sight: all of a short table, or of one that is printed.
+function chooseRows(rows, at, all) {
+  const about = rowsAbout(), { length } = rows;
+  const isNear = drawn.from <= Math.max(at - 2, 0) && Math.min(at + 2, length) <= drawn.to;
+  if (all || length <= 4 * about) Object.assign(drawn, { rows, from: 0, to: length });
+  else if (drawn.rows !== rows || !isNear || drawn.to - drawn.from > 2 * about)
+    Object.assign(drawn, { rows, from: Math.max(at - about, 0), to: Math.min(at + about, length) });
+}
+
+// A row with the height of so many that are not drawn.
+const filler = (count, wide) => count
+  ? `<tr class="filler" aria-hidden="true"><td colspan="${wide}" style="height: calc(${count} * 1.75rem)"></td></tr>` : '';
+
+// Draws the rows that have come into sight.
+function showRowsInSight() {
+  const box = $('#table .scroll'), { rows, from, to } = drawn;
+  if (!box || to - from === rows.length) return;
+  const { firstElementChild: first, lastElementChild: end } = $('#grid tbody');
+  const top = from ? first.offsetTop + first.offsetHeight : -1, low = to < rows.length ? end.offsetTop : Infinity;
+  if (box.scrollTop >= top && box.scrollTop + box.clientHeight <= low) return;
+  const high = from ? first.offsetHeight / from : end.offsetHeight / (rows.length - to);
+  showTable(passNow(), { at: Math.min(Math.floor((box.scrollTop + box.clientHeight / 2) / high), rows.length - 1) });
+}
+
+// Draws a table, about the row of now where no other one is in sight.
+function showTable(pass, { at, all = false } = {}) {
   const columns = columnsNow(), last = showsLast();
   const heads = columns.map((one,
     at) => `<th scope="col" class="${one.wide ? 'wide' : 'tall'}" data-head="${at}" style="--h:${one.hue}"><button type="button" data-col="${at}" tabindex="-1">${esc(one.label)}</button></th>`)
     .join('');
   const guess = guesses.get(guessKey()) || {}, latest = isMotion(pass) &&
     itemsOf(pass).length ? bitsOf(itemsOf(pass)[state.item].rows, 'latest') : [];
-  const rows = rowsOf(pass, last && !hidden(state.col)).map(({ n, m }) => {
+  const known = rowsOf(pass, last && !hidden(state.col)), wide = columns.length + 2;
+  chooseRows(known, at ?? known.findIndex(row => row.n === state.node), all);
+  const rows = known.slice(drawn.from, drawn.to).map(({ n, m }) => {
     if (n === undefined) return newRow(pass, m, columns.length + 1);
     const cells = columns.map((one, at) => one.bits ? bitCell(one, at, n, guess, latest) : valueCell(one, at, n)).join('');
     return `<tr data-k="b${n}" data-n="${n}" class="${last ? pass.change[n] : ''}"><th scope="row" tabindex="-1">${n}</th><td class="does">${doesDrawn(pass, n, last && !hidden(state.col))}</td>${cells}</tr>`;
   });
-  const html = `${quizBar(columns[state.col], guess)}<div class="scroll"><table id="grid" role="grid" class="${columns.some(one => one.wide) ? 'short' : ''}" aria-label="nodes of ${esc(pass.before.name)}"><thead><tr><th scope="col" class="corner">node</th><th scope="col" class="corner">what it does</th>${heads}</tr></thead><tbody>${rows.join('')}</tbody></table></div>`;
-  if (html !== tableNow) {                                  // most keys move the cursor alone
-    tableNow = html;
+  const body = `${filler(drawn.from, wide)}${rows.join('')}${filler(known.length - drawn.to, wide)}`;
+  const html = `${quizBar(columns[state.col], guess)}<div class="scroll"><table id="grid" role="grid" class="${columns.some(one => one.wide) ? 'short' : ''}" aria-rowcount="${known.length + 1}" aria-label="nodes of ${esc(pass.before.name)}"><thead><tr><th scope="col" class="corner">node</th><th scope="col" class="corner">what it does</th>${heads}</tr></thead><tbody>${body}</tbody></table></div>`;
+  if (at !== undefined) $('#grid tbody').innerHTML = body;   // the box that is scrolled stays
+  else if (html !== tableNow) {                             // most keys move the cursor alone
     const kept = $('#table .scroll'), [keptTop, keptLeft] = kept ? [kept.scrollTop, kept.scrollLeft] : [0, 0];
     $('#table').innerHTML = html;
     Object.assign($('#table .scroll'), { scrollTop: keptTop, scrollLeft: keptLeft });
   }
+  tableNow = html;
   placeCursor();
 }
 let tableNow = '';
@@ -96,9 +130,9 @@ function placeCursor() {
     for (const one of wanted) if (one) one.classList.add(name);
   };
   const row = grid.querySelector(`tr[data-n="${state.node}"]`);
-  const cell = columnNow() ? row.querySelector(`td[data-col="${state.col}"]`) : row.firstElementChild;
+  const cell = columnNow() ? row?.querySelector(`td[data-col="${state.col}"]`) : row?.firstElementChild;
   for (const one of grid.querySelectorAll('tbody [tabindex="0"]')) one.tabIndex = -1;
-  cell.tabIndex = 0;
+  if (cell) cell.tabIndex = 0;
   mark('here', [row]);
   mark('cursor', [cell]);
   mark('now', grid.querySelectorAll(`th[data-head="${state.col}"], td[data-col="${state.col}"]`));

@@ -245,8 +245,11 @@ function takeLayouts(layouts) {
   for (const { sizes, edges, ...layout } of layouts) GIVEN.set(graphKey(sizes, edges), layout);
 }
 
+// The layout of a graph that the page was given, if any.
+const givenOf = (sizes, edges) => GIVEN.size ? GIVEN.get(graphKey(sizes, edges)) : undefined;
+
 // The layout of boxes of these sizes, and of edges, each with the box that it leaves and the one that it enters.
-const layoutOf = (sizes, edges) => GIVEN.get(graphKey(sizes, edges)) ?? new Layers(sizes, edges).layout();
+const layoutOf = (sizes, edges) => givenOf(sizes, edges) ?? new Layers(sizes, edges).layout();
 
 // How high that layout is.
-const heightOf = (sizes, edges) => (GIVEN.get(graphKey(sizes, edges)) ?? new Layers(sizes, edges)).high;
+const heightOf = (sizes, edges) => (givenOf(sizes, edges) ?? new Layers(sizes, edges)).high;

@@ -13,20 +13,14 @@ function passesOf(unit) {
     const pass = { at, name: facts.name, title, facts, before, after: stage, became: before.nodes.map(() => null),
       fresh: [],
       change: [], first: at === 0 };
-    pass.old = stage.nodes.map((node, m) => pass.first ? m : node[2]);
-    // for each node, which new assignments stand before it
-    pass.puts = before.nodes.map(() => []);
-    stage.nodes.forEach((node, m) => {
-      let to = m;
-      for (let steps = 0; steps <= stage.nodes.length && pass.old[to] === null; steps++) to = stage.nodes[to][1][0];
-      // (code that is joined may turn in a loop and come to no node of before)
-      if (to !== m && node[0] === 'assign' && pass.old[to] !== null) pass.puts[pass.old[to]].push(m);
-    });
+    pass.old = pass.first ? range(stage.nodes.length) : [...facts.old];
+    pass.puts = putsOf(pass);
     keepUnmoved(pass);
     pass.old.forEach((old, m) => { if (old === null) pass.fresh.push(m); else if (old >= 0) pass.became[old] = m; });
     pass.change = before.nodes.map((node, n) => {
       const m = pass.became[n];
-      return m === null ? 'gone' : stage.nodes[m][3] !== node[3] || stage.nodes[m][0] !== node[0] ? 'changed' : 'same';
+      if (m === null) return 'gone';
+      return stage.nodes[m] === node || stage.nodes[m][3] === node[3] && stage.nodes[m][0] === node[0] ? 'same' : 'changed';
     });
     // what writes text counts: a Skip does not
     const counts = node => node[0] !== 'skip';
@@ -34,11 +28,32 @@ function passesOf(unit) {
       .length + pass.fresh.filter(m => counts(stage.nodes[m])).length;
     pass.told = pass.first ? 'as read' : pass.count ? `${pass.count} ${facts.name === 'prune' ? 'dead'
       : facts.name === 'clean' && !pass.change.includes('changed') ? 'dropped' : 'changed'}`
-      : instructionsOf(unit, before) === instructionsOf(unit, stage) ? 'no change' : 'jumps alone';
+      : isSameText(unit, pass) ? 'no change' : 'jumps alone';
     return pass;
   });
   Object.defineProperty(unit, 'made', { value: made });
   return made;
+}
+
+// For each node before a pass, which new assignments stand before it.
+function putsOf({ before, after: { nodes }, old }) {
+  const puts = before.nodes.map(() => NOTHING);
+  nodes.forEach(([kind], m) => {
+    if (kind !== 'assign' || old[m] !== null) return;
+    let to = m;
+    for (let steps = 0; steps <= nodes.length && old[to] === null; steps++) to = nodes[to][1][0];
+    // (code that is joined may turn in a loop and come to no node of before)
+    if (old[to] !== null) puts[old[to]] = [...puts[old[to]], m];
+  });
+  return puts;
+}
+const NOTHING = [];
+
+// Whether a pass that changed no instruction also leaves the text as it was, but for the numbers of labels.
+function isSameText(unit, { before, after, old }) {
+  const isAsBefore = (node, m) => old[m] === m && before.nodes[m] === node;
+  return before.nodes.length === after.nodes.length && after.nodes.every(isAsBefore)
+    || instructionsOf(unit, before) === instructionsOf(unit, after);
 }
 
 // The text of a stage, in which it makes no difference which number a label has.
@@ -59,16 +74,20 @@ function keepUnmoved(pass) {
   const stays = n => after[n][0] !== 'skip', begins = n => into[n].length !== 1 || stays(into[n][0]);
   nodes.forEach((_, first) => {
     if (!begins(first)) return;
-    const stretch = [first], next = () => nodes[stretch.at(-1)][1][0];
-    while (!stays(stretch.at(-1)) && !begins(next())) stretch.push(next());
-    const was = stretch.filter(n => nodes[n][0] === 'assign' && !stays(n)), now = stretch.flatMap(n => pass.puts[n]);
+    let last = first, count = pass.puts[first].length;
+    while (!stays(last) && !begins(nodes[last][1][0])) count += pass.puts[last = nodes[last][1][0]].length;
+    if (!count) return;
+    const stretch = [first];
+    while (stretch.at(-1) !== last) stretch.push(nodes[stretch.at(-1)][1][0]);
+    const now = stretch.flatMap(n => pass.puts[n]), was = stretch.filter(n => nodes[n][0] === 'assign' && !stays(n));
     for (const [n, m] of inOrder(was, now, (n, m) => nodes[n][3] === after[m][3])) [pass.old[m], pass.old[n]] = [n, -1];
-    for (const n of stretch) pass.puts[n] = pass.puts[n].filter(m => pass.old[m] === null);
+    for (const n of stretch) if (pass.puts[n].length) pass.puts[n] = pass.puts[n].filter(m => pass.old[m] === null);
   });
 }
 
 // As many pairs of two lists as can be, in the order of both. Where there is a choice, what stands first has gone on.
 function inOrder(left, right, same) {
+  if (!left.length || !right.length) return [];
   const most = [...left, null].map(() => new Uint32Array(right.length + 1)), pairs = [];
   for (let a = left.length - 1; a >= 0; a--) for (let b = right.length - 1; b >= 0; b--)
     most[a][b] = same(left[a], right[b]) ? most[a + 1][b + 1] + 1 : Math.max(most[a + 1][b], most[a][b + 1]);
@@ -79,7 +98,7 @@ function inOrder(left, right, same) {
   return pairs;
 }
 
-const bitsOf = (rows, name) => [...(rows[name] || '')].map(bit => bit === '1');
+const bitsOf = (rows, name) => Array.from(rows[name] || '', bit => bit === '1');
 const where = bits => range(bits.length).filter(n => bits[n]);
 
 // What a value number stands for, as a tree; long ones are cut.
@@ -122,7 +141,7 @@ function afterColumn(pass) {
     const moved = pass.became[n] !== null && pass.became[n] !== n ? ` Its number is now ${pass.became[n]}.` : '';
     return { html: (puts.length ? `Before it stands ${puts.join(' and ')}, new. ` : '') + becomes + moved };
   };
-  return { id: 'after', label: 'rewritten', values: told, marks: true, why, hue: HUES.after, say: did(pass) };
+  return lazily({ id: 'after', label: 'rewritten', values: told, marks: true, why, hue: HUES.after }, 'say', () => did(pass));
 }
 
 // ---- what a pass did, in a sentence, and why it did nothing
@@ -167,6 +186,8 @@ function whyNothing(pass) {
   if (pass.count) return '';
   return { clean: 'Each jump here is wanted: every successor is its own end of chain.',
     fold: 'No operand has one known value, no test is decided, and no identity applies.',
+    bounds: 'No operand has one value, and no right side, test or trap instruction is decided by the bounds.',
+    wanted: 'Of each assignment that can go a bit is wanted, and each operator changes one that is.',
     number: 'No right side has a term that a variable already has.',
       copies: itemsOf(pass).length ? 'No node reads a variable where it is a copy.' : 'There is no copy in this graph.',
     split: 'No node is entered by more than one edge.',

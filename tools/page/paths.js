@@ -82,9 +82,8 @@ function problem(pass, item) {
     return [...found].sort((a, b) => a - b);
   };
   // on which edges the temporary lives, as the row of the tables says
-  P.held = heldEdges(pass.before, item);
-  const held = new Set(P.held.map(edge => edge.join('>')));
-  P.isHeld = (n, s) => held.has(`${n}>${s}`);
+  const held = item.edges?.held ?? '', firsts = firstEdges(pass.before);
+  P.isHeld = (n, s) => nodes[n][1].some((to, slot) => to === s && held[firsts[n] + slot] === '1');
   P.servedEdges = n => {
     const edges = [], seen = new Set([n]), waiting = [n];
     while (waiting.length) {
@@ -147,6 +146,12 @@ function turnFrom(P, n) {
 
 // The edges of a stage, in order of the node that they leave; of a test the one that is taken stands first.
 const allEdges = stage => stage.nodes.flatMap((node, n) => node[1].map(s => [n, s]));
+
+// Of each node of a stage where the first edge that leaves it stands among them.
+function firstEdges(stage) {
+  let count = 0;
+  return stage.nodes.map(node => (count += node[1].length) - node[1].length);
+}
 
 // The edges on which the temporary of an expression lives, by a row of the tables: that of the lazy placement, or of the
 // busy one.

@@ -79,8 +79,9 @@ function fillUnits() {
   $('#unit').innerHTML = UNITS.map((unit, at) => `<option value="${at}">${esc(unit.name)}</option>`).join('');
 }
 
-// Goes to the tables of another command, at the same unit.
+// Goes to the tables of another command, at the same unit, or asks for them.
 function goCommand(to) {
+  if (COMMANDS[to]?.choose) return COMMANDS[to].choose();
   if (to === state.command || !COMMANDS[to]) return;
   const { name } = unitNow();
   state.command = to;
@@ -89,10 +90,15 @@ function goCommand(to) {
   goUnit(Math.max(UNITS.findIndex(unit => unit.name === name), 0));
 }
 
-// Goes to a place, as far as it is there.
+// What a place has of the tables of its command alone.
+const OF_COMMAND = ['pass', 'item', 'col', 'node', 'from', 'run', 'at'];
+
+// Goes to a place, as far as it is there; in the tables of another command than its own, to its unit.
 function recall(place) {
-  const parts = new URLSearchParams(place), command = COMMANDS.findIndex(one => one.word === parts.get('of'));
-  state.command = Math.max(command, 0);
+  const parts = new URLSearchParams(place), word = parts.get('of') ?? COMMANDS[0].word;
+  const own = COMMANDS.findIndex(one => one.word === word && one.text !== null);
+  if (own < 0) for (const part of OF_COMMAND) parts.delete(part);
+  state.command = own < 0 ? COMMANDS.findIndex(one => one.text !== null) : own;
   takeCommand(state.command);
   fillUnits();
   state.unit = Math.max(UNITS.findIndex(unit => unit.name === parts.get('unit')), 0);
@@ -126,6 +132,20 @@ function goLine(parts) {
     state.col = col < 0 ? columnsNow().length - 1 : col;
     return;
   }
+  goRow(name, text, isNew, nth);
+}
+
+// Goes to the row of a line that the tables have as it was, since it stands or leads elsewhere alone. Of a jump that is new
+// it is the row of where it leads, of one that goes its own.
+function goRow(name, text, isNew, nth) {
+  const pass = passesOf(unitNow()).find(one => one.after.name === name && !one.first);
+  if (!pass) return;
+  const stage = isNew ? pass.after : pass.before, alike = n => stage.nodes[n][3] === text;
+  const jumps = linesOf(stage).filter(([n, words]) => words === 'goto' && (isNew ? pass.old : pass.became)[n] === null);
+  const found = text ? inTextOrder(stage, range(stage.nodes.length)).filter(alike)[nth] : jumps[nth]?.[isNew ? 2 : 0];
+  const n = isNew ? pass.old[found] : found;
+  Object.assign(state, { pass: pass.at, node: n >= 0 ? n : state.node });
+  state.col = columnsNow().length - 1;
 }
 
 // Of a text the nodes that a pass makes anew or changes into it, each with the choice and the column that tell why.
@@ -280,7 +300,7 @@ const ACTIONS = {
   ' ': () => { if (state.quiz && hidden(state.col) && columnNow()?.bits) guessAt(state.node); else return false; },
   Enter: () => { if (state.quiz && hidden(state.col)) check(); else return false; },
 };
-for (const key of ['1', '2', '3', '4']) ACTIONS[key] = () => goCommand(Number(key) - 1);
+for (const key of '123456') ACTIONS[key] = () => goCommand(Number(key) - 1);
 Object.assign(ACTIONS, { l: ACTIONS.ArrowRight, h: ACTIONS.ArrowLeft, j: ACTIONS.ArrowDown, k: ACTIONS.ArrowUp });
 document.addEventListener('keydown', event => {
   if (event.ctrlKey || event.altKey || event.metaKey || $('dialog[open]')) return;
@@ -290,32 +310,44 @@ document.addEventListener('keydown', event => {
   const action = ACTIONS[event.key];
   if (action && action() !== false) event.preventDefault();
 });
-window.addEventListener('resize', () => { fit(); inView(); });
+window.addEventListener('resize', () => { fit(); inView(); showRowsInSight(); });
 window.addEventListener('hashchange', () => { recall(location.hash.slice(1)); show(); });
 
-// So many pictures are kept for the next text.
-const MOST_PICTURES = 100;
+// What has come into sight is drawn; and all of it where the page is printed.
+document.addEventListener('scroll', event => {
+  if (event.target === $('#table .scroll')) showRowsInSight();
+  else if (event.target.matches?.('#stage .scroll')) drawBands(event.target);
+}, true);
+window.addEventListener('beforeprint', () => {
+  if (!UNITS.length) return;
+  showTable(passNow(), { all: true });
+  for (const box of document.querySelectorAll('#stage .graph .scroll')) drawBands(box, true);
+});
+
+// So many pictures are kept for the next text; and from so many letters on a text takes long enough to be told.
+const MOST_PICTURES = 100, LARGE = 16_000_000;
 
 // Takes the tables of a program, and shows them where the reader was, at the same choice where there is one, or at the
-// place that comes with them.
-function load(data) { return worked(data.text.length, () => taken(data)); }
+// place that comes with them; those of another command at the same unit.
+function load(data) { return worked(data.text.length, LARGE, () => taken(data)); }
 
 // What `load` does, once it has told of it.
 function taken(data) {
   const place = data.place ?? (UNITS.length ? placeNow() : location.hash.slice(1));
-  const chosen = UNITS.length ? itemsOf(passNow())[state.item]?.text : undefined;
+  const chosen = UNITS.length ? itemsOf(passNow())[state.item]?.text : undefined, was = COMMANDS[state.command]?.word;
   takeProgram(data);
   if (PICTURES.size > MOST_PICTURES) PICTURES.clear();
   for (const one of [guesses, checked, firsts]) one.clear();
   document.title = $('#program').textContent = data.name;
   recall(place);
-  const same = data.place ? -1 : itemsOf(passNow()).findIndex(item => item.text === chosen);
+  const isThere = data.place === undefined && COMMANDS[state.command].word === was;
+  const same = isThere ? itemsOf(passNow()).findIndex(item => item.text === chosen) : -1;
   if (same >= 0) state.item = same;
   show();
 }
 
 const ON_PAGE = $('#data').textContent;
-worked(ON_PAGE.length, () => {
+worked(ON_PAGE.length, LARGE, () => {
   const data = JSON.parse(ON_PAGE);
   takeLayouts(data.layouts ?? []);
   if (data.text) taken(data);

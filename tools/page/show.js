@@ -77,11 +77,13 @@ function show(focus = false) {
   inView();
 }
 
-// The commands whose tables there are, where there is more than one.
+// The commands whose tables there are, where there is more than one. The focus stays on the one of now.
 function showCommands() {
+  const isHeld = document.hasFocus() && $('#commands').contains(document.activeElement);
   $('#commands').hidden = COMMANDS.length < 2;
   $('#commands').innerHTML = COMMANDS.map(({ word }, at) => `<button type="button" data-command="${at}" aria-pressed="${at === state.command}" title="${at + 1}">${esc(word)}</button>`)
     .join('');
+  if (isHeld) $('#commands [aria-pressed=true]').focus({ preventScroll: true });
 }
 
 function showPipeline(unit) {
@@ -191,15 +193,21 @@ function witnessNow(pass) {
   return one.why(state.node);
 }
 
+// Whether there is room for the texts beside the graph, as the style of the page has it.
+const IS_WIDE = matchMedia('(min-width: 1560px)');
+IS_WIDE.addEventListener('change', () => UNITS.length && show());
+
 function showGraphs(pass) {
   const one = columnNow(), stage = $('#stage'), witness = witnessNow(pass), item = itemsOf(pass)[state.item];
+  const here = state.node, hereAfter = pass.became[here] ?? 0;
   const hot = witness ? [...(witness.edges || []),
     ...(witness.path || []).slice(1).map((n, k) => [witness.path[k], n])] : [];
   let html = '';
+  WAITING.clear();
   if (state.view === 'text') html = texts(pass);
   else if (state.view === 'verdicts') html = verdictsDrawn(pass);
   else if (state.view === 'both') {
-    html = `<div class="pair">${draw(pass.before, tellBefore(pass, one?.id === 'after' ? null : one, null), { title: 'before', walked: countsOf(false).edges })}${draw(pass.after, tellAfter(pass), { title: 'after', walked: countsOf(true).edges })}</div>`;
+    html = `<div class="pair">${draw(pass.before, tellBefore(pass, one?.id === 'after' ? null : one, null), { title: 'before', here, walked: countsOf(false).edges })}${draw(pass.after, tellAfter(pass), { title: 'after', here: hereAfter, walked: countsOf(true).edges })}</div>`;
   } else if (state.view === 'busy') {
     const e = item.text, temp = item.temp || 'h';
     const side = (title, words, inserted, replaced, live) => draw(pass.before,
@@ -207,7 +215,7 @@ function showGraphs(pass) {
         style: `--h:${HUES.inserted}`, pills: inserted[n] ? [`${temp} <- ${e}`] : [],
         text: replaced[n] ? `${parsed(pass.before.nodes[n]).into} <- ${temp}` : null,
         aria: inserted[n] ? 'inserted before' : '' }),
-      { live, title: `<b>${title}</b> ${words}: inserts at ${list(where(inserted))}, replaces ${list(where(replaced))}; ${code(temp)} lives on <b>${many(live.length, 'edge')}</b>` });
+      { live, here, title: `<b>${title}</b> ${words}: inserts at ${list(where(inserted))}, replaces ${list(where(replaced))}; ${code(temp)} lives on <b>${many(live.length, 'edge')}</b>` });
     const rows = ['busy inserted', 'busy replaced', 'inserted', 'replaced'].map(name => bitsOf(item.rows, name));
     const busy = side('Busy', '(as early as it can)', rows[0], rows[1], heldEdges(pass.before, item, 'busy held'));
     const lazy = side('Lazy', '(as late as it can; taken)', rows[2], rows[3], heldEdges(pass.before, item));
@@ -216,7 +224,7 @@ function showGraphs(pass) {
     const last = one?.id === 'after';
     const live = isMotion(pass) && item && ['inserted', 'replaced', 'held'].includes(one?.id) &&
       !hidden(state.col) ? heldEdges(pass.before, item) : [];
-    html = `<div class="beside">${last ? draw(pass.after, tellAfter(pass), { walked: countsOf(true).edges }) : draw(pass.before, tellBefore(pass, one, witness), { hot, live, walked: countsOf(false).edges })}<div class="wideonly">${texts(pass)}</div></div>`;
+    html = `<div class="beside">${last ? draw(pass.after, tellAfter(pass), { here: hereAfter, walked: countsOf(true).edges }) : draw(pass.before, tellBefore(pass, one, witness), { hot, live, here, walked: countsOf(false).edges })}${IS_WIDE.matches ? `<div class="wideonly">${texts(pass)}</div>` : ''}</div>`;
   }
   stage.innerHTML = html;
   fit();
@@ -241,6 +249,7 @@ function fit() {
     }
     box.style.maxHeight = window.innerWidth >= 900 ? `${room}px` : '';
     bringIntoView(box, box.querySelector('.here'));
+    drawBands(box);
   }
   fitScale = scale;
 }

@@ -138,7 +138,10 @@ function alignedStages(text) {
 
 // Takes a text of stages, and shows it where the reader was: at the stage and the unit of these names. A note may stand
 // beside each stage.
-function load(data) { return worked(data.text.length, () => taken(data)); }
+function load(data) { return worked(data.text.length, LARGE, () => taken(data)); }
+
+// From so many letters on a text takes long enough to be told.
+const LARGE = 400_000;
 
 // What `load` does, once it has told of it.
 function taken({ text, title, runs = [], notes = [], reasons = '' }) {
@@ -182,7 +185,7 @@ function open() {
     window.parent.openReason(place);
   });
   const given = $('#data').textContent;
-  worked(given.length, () => {
+  worked(given.length, LARGE, () => {
     const data = JSON.parse(given);
     takeLayouts(data.layouts ?? []);
     if (data.text) taken(data);

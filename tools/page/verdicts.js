@@ -148,13 +148,23 @@ function verdictOfPattern(pass, item) {
   return found;
 }
 
+// Why a unit is no leaf.
+const noLeaf = ({ name, count, isLong, calls }) => `${code(name)} is no leaf, since ${[
+  isLong && `it has ${many(count, 'instruction')}, more than 32`, calls && `it calls ${code(calls)}`].filter(Boolean).join(' and ')}.`;
+
+// The verdict on a unit by the tables of join: whether it is a leaf.
+function verdictOfBody(body) {
+  const { name, count, isLeaf } = body;
+  return { at: null, item: { text: name, rows: {} }, sentences: [sentence(isLeaf ? 'leaf' : 'none', body, isLeaf
+    ? `${code(name)} is a leaf: it has ${many(count, 'instruction')}, and calls no unit.` : noLeaf(body))] };
+}
+
 // What is told of a call by the tables of tails or of join.
 function callTold(pass, { n, name, position, next }) {
   const { out } = edgesOf(pass.before), own = unitOfPass(pass), body = own.bodies.find(one => one.name === name);
   if (position === 'joined' && own.laid && !own.laid.taken) return { html: `${N(n)} stays: with its leaves ${code(own.name)} would have ${many(own.laid.count, 'instruction')}, more than a text may have, so none is joined into it.` };
   if (position === 'joined') return { html: `${N(n)} calls ${code(name)}, a leaf of ${many(body.count, 'instruction')}: the code of it stands there now.` };
-  if (position === 'stays') return { html: `${N(n)} stays: ${code(name)} is no leaf, since ${[body.isLong
-    && `it has ${many(body.count, 'instruction')}, more than 32`, body.calls && `it calls ${code(body.calls)}`].filter(Boolean).join(' and ')}.` };
+  if (position === 'stays') return { html: `${N(n)} stays: ${noLeaf(body)}` };
   if (position === 'loop') return { html: `${N(n)} calls the unit itself, and its answer is returned next: it becomes a jump to the beginning, behind assignments of the arguments.` };
   if (position === 'tail') return { html: `${N(n)} is in tail position, but calls another unit, ${code(name)}: it stays.` };
   if (position === 'dropped') return { html: `${N(n)} stays: its answer goes to no variable, so it is not what is returned.` };
@@ -166,9 +176,12 @@ function callTold(pass, { n, name, position, next }) {
 // The unit to which a pass belongs.
 const unitOfPass = pass => UNITS.find(unit => passesOf(unit).includes(pass));
 
-// The verdicts of a pass on calls.
-const verdictsOfCalls = pass => (pass.facts.calls ?? []).map(call => ({ at: null, item: { text: pass.before.nodes[call.n][3], rows: {} },
-  sentences: [sentence(call.position, call, callTold(pass, call).html)] }));
+// The verdicts of a pass on calls, and of join on the unit before them.
+function verdictsOfCalls(pass) {
+  const own = unitOfPass(pass), bodies = pass.name === 'join' ? own.bodies.filter(one => one.name === own.name) : [];
+  return [...bodies.map(verdictOfBody), ...(pass.facts.calls ?? []).map(call => ({ at: null,
+    item: { text: pass.before.nodes[call.n][3], rows: {} }, sentences: [sentence(call.position, call, callTold(pass, call).html)] }))];
+}
 
 // What makes the verdict on a choice of a pass.
 const VERDICT_OF = { motion: verdictOf, divisions: verdictOf, sink: verdictOfPattern };

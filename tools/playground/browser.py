@@ -155,7 +155,8 @@ class Browser:
     def key(self, key: str, code: str = '', alt: bool = False) -> None:
         """Presses a key."""
         held = {'key': key, 'code': code or key, 'modifiers': int(alt)}
-        typed = {} if alt or len(key) > 1 else {'text': key}
+        text = '\r' if key == 'Enter' else key
+        typed = {'text': text} if len(text) == 1 and not alt else {}
         self.call('Input.dispatchKeyEvent', type='keyDown' if typed else 'rawKeyDown', **held, **typed)
         self.call('Input.dispatchKeyEvent', type='keyUp', **held)
 

@@ -40,10 +40,10 @@ class Library {
     return at;
   }
 
-  // Calls an export that takes words, or none, and a text.
+  // Calls an export that takes words and a text.
   call(name, words, bytes) {
-    const { exports } = this, said = words && new TextEncoder().encode(words.map(word => `${word}\0`).join(''));
-    const lent = [...said ? [said] : [], bytes].map(one => [this.put(one), one.length]);
+    const { exports } = this, said = new TextEncoder().encode(words.map(word => `${word}\0`).join(''));
+    const lent = [said, bytes].map(one => [this.put(one), one.length]);
     const out = this.take(this.room), line = this.take(LINE_ROOM), lengths = this.take(16);
     const status = exports[name](...lent.flatMap(([at, length]) => [at, BigInt(length)]), out, BigInt(this.room),
       lengths, line, BigInt(LINE_ROOM), lengths + 8n);
@@ -56,7 +56,7 @@ class Library {
 
   // What a program answers.
   ran(program, words, bytes) {
-    const call = program === 'mir' ? ['mir_call', words, bytes] : ['mir_tables_call', null, bytes];
+    const call = [program === 'mir' ? 'mir_call' : 'mir_tables_call', words, bytes];
     try {
       const answer = this.call(...call);
       if (answer.length <= this.room) return answer;

@@ -14,15 +14,15 @@ const NO_TABS = ['stages', 'run', 'trial'];
 // More inputs than a unit receives: a run with them is refused once the text is judged, and tells how many are wanted.
 const TOO_MANY = Array(17).fill('0');
 
-// What is shown: the tab, the words of its form by tab, the refusal of the text, how many inputs its first unit wants,
-// the example that it is, whether it stands there since a link could not be read, and of which tab the panel has
-// something.
-const state = { tab: 'stages', words: { run: ['1000'] }, refusal: null, wanted: 0, example: '',
+// What is shown: the tab, the words of its form by tab, and of tables that of their command; the refusal of the text, how
+// many inputs its first unit wants, the example that it is, whether it stands there since a link could not be read, and
+// of which tab the panel has something.
+const state = { tab: 'stages', words: { run: ['1000'], tables: [] }, refusal: null, wanted: 0, example: '',
   damaged: false, seen: '' };
 
-// The tabs, once the program has told its commands; the words that a command takes, by its name, where it takes any; and
-// for tests what was shown last.
-let tabs = OWN_TABS, begun = 0;
+// The tabs, once the program has told its commands; the words that a command takes, by its name, where it takes any; the
+// commands that have tables, of which the first is meant with no word; and for tests what was shown last.
+let tabs = OWN_TABS, tabled = [], begun = 0;
 const WORDS_OF = {};
 window.shown = { turn: 0 };
 
@@ -100,13 +100,24 @@ async function showPage(name, answer, turn) {
   if (place !== null) reason = null;
   const named = state.example.replace(/\.mir$/, '') || 'program';
   await frame.contentWindow.load({ text: answer.out, name: named, title: `Stages of ${named}`, reasons: 'tables',
+    ...name === 'tables' && tabled.length ? { words: tabled, choose: chooseTables } : {},
     ...place === null ? {} : { place } });
 }
+
+// Shows the tables of a command.
+function chooseTables(word) {
+  state.words.tables = wordOfTables(word);
+  changed();
+}
+
+// The word by which the tables of a command are asked for, where it has any and wants one.
+const wordOfTables = word => tabled.indexOf(word) > 0 ? [word] : [];
 
 // Where the page of tables is to go when it is shown next; and how the page of stages leads there.
 let reason = null;
 window.openReason = place => {
   reason = place;
+  state.words.tables = [];
   choose('tables');
 };
 
@@ -134,7 +145,7 @@ const SHOWS = {
     if (isRight(answer)) await showPage('stages', answer, turn);
   },
   async tables(ask, turn) {
-    const answer = await ask('mir_tables', []);
+    const answer = await ask('mir_tables', state.words.tables);
     if (isRight(answer)) await showPage('tables', answer, turn);
   },
   async run(ask) {
@@ -217,7 +228,8 @@ function take(program) {
 
 // Shows what the text of now is.
 function typed() {
-  state.example = Object.keys(EXAMPLES).find(name => EXAMPLES[name] === text.value) ?? '';
+  const now = text.value;
+  state.example = Object.keys(EXAMPLES).find(name => EXAMPLES[name] === now) ?? '';
   $('#example').value = state.example;
   drawEditor();
   changed();
@@ -255,7 +267,8 @@ const linkOfNow = () => linkTo({ text: text.value, tab: state.tab, words: state.
 async function recall() {
   const held = await heldBy(location.hash);
   if (held.tab && tabs.some(([name]) => name === held.tab)) state.tab = held.tab;
-  if (held.words) state.words[state.tab] = WORDS_OF[state.tab] ? [held.words.join(' ')] : held.words;
+  if (state.tab === 'tables') state.words.tables = wordOfTables(held.words?.[0]);
+  else if (held.words) state.words[state.tab] = WORDS_OF[state.tab] ? [held.words.join(' ')] : held.words;
   take(held.damaged ? '' : held.program ?? EXAMPLES[FIRST_EXAMPLE]);
   state.damaged = held.damaged;
   choose(state.tab);
@@ -332,6 +345,12 @@ async function commands() {
   return work.map(([name]) => name);
 }
 
+// The commands that have tables, as the line of the other program on its use tells them; it has no word `?`.
+async function commandsOfTables() {
+  const usage = await caller.ask(caller.newest, 'mir_tables', ['?'], new Uint8Array());
+  return usage.status === 1 ? usage.err.match(/\[(.*)\]/)?.[1].split(' | ') ?? [] : [];
+}
+
 // Makes a tab.
 function tabDrawn([name, title], at) {
   const tab = document.createElement('button');
@@ -347,6 +366,7 @@ async function open() {
   for (const name of Object.keys(EXAMPLES)) $('#example').append(new Option(name.replace(/\.mir$/, ''), name));
   tabs = [...OWN_TABS, ...(await commands()).map(name => [name, name])];
   $('#tabs').append(...tabs.map(tabDrawn));
+  tabled = await commandsOfTables();
   listen();
   await recall();
 }

@@ -1,9 +1,10 @@
-// What the program asks of its host, for a browser: memory, and one product of 128 bits; where it is a whole program and
-// no library, also words, reading and writing, which then come from the page. Nothing is kept from one call to the next.
+// What the program asks of its host, for a browser: memory, and operators of 128 bits; where it is a whole program and no
+// library, also words, reading and writing, which then come from the page. Nothing is kept from one call to the next.
 typedef unsigned long long u64;
 typedef long long i64;
 typedef unsigned char u8;
 typedef struct { u64 one, two; } Pair;
+typedef unsigned __int128 Wide;
 
 // Memory: blocks of sizes of which there are four to each doubling, each with its class before it; one free list for
 // each size. New blocks are taken from the end of the memory.
@@ -81,12 +82,54 @@ Pair rattle_realloc(void *at, u64 old, u64 size, u64 align) {
   return (Pair){1, (u64)now};
 }
 
-// A product of 128 bits.
-__attribute__((no_builtin)) unsigned __int128 __multi3(u64 alow, u64 ahigh, u64 blow, u64 bhigh) {
+// Numbers of 128 bits, each given by its two halves: a product, quotients, which go towards zero, and shifts by less than
+// 128 places.
+static Wide wide(u64 low, u64 high) { return ((Wide)high << 64) | low; }
+
+__attribute__((no_builtin)) Wide __multi3(u64 alow, u64 ahigh, u64 blow, u64 bhigh) {
   u64 a0 = alow & 0xffffffff, a1 = alow >> 32, b0 = blow & 0xffffffff, b1 = blow >> 32;
   u64 low = a0 * b0, mid = a1 * b0 + (low >> 32), mid2 = a0 * b1 + (mid & 0xffffffff);
   u64 high = a1 * b1 + (mid >> 32) + (mid2 >> 32) + alow * bhigh + ahigh * blow;
-  return ((unsigned __int128)high << 64) | ((mid2 << 32) | (low & 0xffffffff));
+  return wide((mid2 << 32) | (low & 0xffffffff), high);
+}
+
+// Bit by bit: the bits of the quotient come in from the right as those of the dividend go out on the left, to the rest.
+__attribute__((no_builtin)) Wide __udivti3(u64 alow, u64 ahigh, u64 blow, u64 bhigh) {
+  u64 low = 0, high = 0;
+  if (!ahigh && !bhigh) return alow / blow;
+  for (int at = 0; at < 128; at++) {
+    u64 over = high >> 63;
+    high = high << 1 | low >> 63;
+    low = low << 1 | ahigh >> 63;
+    ahigh = ahigh << 1 | alow >> 63;
+    alow <<= 1;
+    if (!over && (high < bhigh || (high == bhigh && low < blow))) continue;
+    high -= bhigh + (low < blow);
+    low -= blow;
+    alow |= 1;
+  }
+  return wide(alow, ahigh);
+}
+
+__attribute__((no_builtin)) Wide __divti3(u64 alow, u64 ahigh, u64 blow, u64 bhigh) {
+  Wide a = wide(alow, ahigh), b = wide(blow, bhigh);
+  if ((i64)ahigh < 0) a = -a;
+  if ((i64)bhigh < 0) b = -b;
+  Wide both = __udivti3((u64)a, (u64)(a >> 64), (u64)b, (u64)(b >> 64));
+  return (i64)(ahigh ^ bhigh) < 0 ? -both : both;
+}
+
+__attribute__((no_builtin)) Wide __ashlti3(u64 low, u64 high, int by) {
+  if (by & 64) return wide(0, low << (by & 63));
+  return by ? wide(low << by, high << by | low >> (64 - by)) : wide(low, high);
+}
+__attribute__((no_builtin)) Wide __lshrti3(u64 low, u64 high, int by) {
+  if (by & 64) return wide(high >> (by & 63), 0);
+  return by ? wide(low >> by | high << (64 - by), high >> by) : wide(low, high);
+}
+__attribute__((no_builtin)) Wide __ashrti3(u64 low, u64 high, int by) {
+  if (by & 64) return wide((u64)((i64)high >> (by & 63)), (u64)((i64)high >> 63));
+  return by ? wide(low >> by | high << (64 - by), (u64)((i64)high >> by)) : wide(low, high);
 }
 
 #ifdef WHOLE_PROGRAM
