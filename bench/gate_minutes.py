@@ -5,7 +5,7 @@ longest chain of crates of which each waits for the one before, and the minutes 
 
     bench/gate_minutes.py             # rt ci
     bench/gate_minutes.py --gate      # .ci/run, which does more behind rt ci; the table is of rt ci all the same
-    bench/gate_minutes.py --write     # puts the table and what stands below it into CONTRIBUTING.md too
+    bench/gate_minutes.py --write     # puts the ten dearest rows and what stands below them into CONTRIBUTING.md too
     bench/gate_minutes.py bit_rows    # this crate and those below it, where the kit's rt ci takes names
 
 What the run itself writes is shown as it comes. --write writes nothing where the run failed.
@@ -23,9 +23,10 @@ import sys
 import threading
 import time
 
-PAGE = "CONTRIBUTING.md"
+PAGE, SECTION = "CONTRIBUTING.md", "## What the gate costs\n"
 TICKS = os.sysconf("SC_CLK_TCK")
 KINDS = ("proof", "tests", "edits")
+MOST_SHOWN = 10  # so many crates have a row of their own on the page
 HEAD = "| Crate | Proof | Tests | Edits | Number of edits |\n|---|---|---|---|---|\n"
 SHOWN = re.compile(re.escape(HEAD) + r"(?:\|.*\n)*\n```text\n(?:.*\n)*?```\n")
 COUNTS = re.compile(r"\d+ passed, \d+ failed")
@@ -108,14 +109,21 @@ def longest_chain(proofs):
     return max(map(chain_to, below))
 
 
-def shown(table, counts, minutes):
-    """The table, and below it what passed, the sums, the longest chain and the minutes by the clock."""
-    rows, edits = [], 0
-    for crate, row in sorted(table.items(), key=lambda item: -sum(item[1].values())):
-        seconds = " | ".join(f"{row[kind]:.0f}" if row[kind] else "none" for kind in KINDS)
-        number = len(glob.glob(f"crates/{crate}/must-fail/*.edit"))
-        edits += number
-        rows.append(f"| `{crate}` | {seconds} | {number} |\n")
+def shown_row(name, row, number):
+    """The row of a crate, or of several together."""
+    return f"| {name} | " + " | ".join(f"{row[kind]:.0f}" if row[kind] else "none" for kind in KINDS) + f" | {number} |\n"
+
+
+def shown(table, counts, minutes, most):
+    """The table, in which all but the `most` dearest crates are one row, and below it what passed, the sums, the longest
+    chain and the minutes by the clock."""
+    ordered = sorted(table.items(), key=lambda item: -sum(item[1].values()))
+    numbers = {crate: len(glob.glob(f"crates/{crate}/must-fail/*.edit")) for crate in table}
+    edits, others = sum(numbers.values()), ordered[most:]
+    rows = [shown_row(f"`{crate}`", row, numbers[crate]) for crate, row in ordered[:most]]
+    if others:
+        row = {kind: sum(each[kind] for _, each in others) for kind in KINDS}
+        rows.append(shown_row(f"the {len(others)} others together", row, sum(numbers[crate] for crate, _ in others)))
     sums = {kind: sum(row[kind] for row in table.values()) / 60 for kind in KINDS}
     told = ", ".join(f"{kind} {minutes:.1f}" for kind, minutes in sums.items())
     seconds, chain = longest_chain({crate: row["proof"] for crate, row in table.items()})
@@ -139,13 +147,19 @@ def wrapped(line):
 
 
 def put_into_page(text):
-    """Puts the table and what stands below it in the place of those of the page."""
+    """Puts the table and what stands below it in the place of those of the page, or to the end of the section on them."""
     with open(PAGE) as file:
         page = file.read()
-    if len(SHOWN.findall(page)) != 1:
-        sys.exit(f"{PAGE} has no such table, with a block marked text below it")
+    if SHOWN.search(page):
+        page = SHOWN.sub(lambda _: text, page)
+    else:
+        before, head, section = page.partition(SECTION)
+        if not head:
+            sys.exit(f"{PAGE} has no section {SECTION.strip()}")
+        section, following, after = section.partition("\n## ")
+        page = before + head + section.rstrip("\n") + f"\n\n{text}" + following + after
     with open(PAGE, "w") as file:
-        file.write(SHOWN.sub(lambda _: text, page))
+        file.write(page)
 
 
 def echo(lines, last):
@@ -190,10 +204,10 @@ def main():
     if not table:
         print("no process of the prover was seen")
         return gate.returncode or 1
-    text = shown(table, last[0], (end - begin) / 60)
-    print(text, end="")
+    minutes = (end - begin) / 60
+    print(shown(table, last[0], minutes, len(table)), end="")
     if given.write and gate.returncode == 0:
-        put_into_page(text)
+        put_into_page(shown(table, last[0], minutes, MOST_SHOWN))
     return gate.returncode
 
 

@@ -31,7 +31,12 @@ BYTES, INSTRUCTIONS, UNITS = 1_048_576, 16_384, 256
 
 # The commands, but for `trial`, which reads no text.
 COMMANDS = ('optimise', 'stages', 'move', 'ranges', 'divisions', 'tails', 'join', 'thorough', 'passes wanted',
-            'passes fold', 'passes number', 'passes copies', 'passes sink', 'run 1000000 7 3')
+            'passes fold', 'passes number', 'passes copies', 'passes sink', 'passes bounds', 'passes demanded',
+            'passes 64', 'run 1000000 7 3')
+
+# What `passes 64` stands for: as many passes as there may be, each of them in turn.
+PASSES = 'tails join optimise clean fold number copies motion divisions sink bounds wanted demanded called'.split()
+CHAIN = ['passes', *(PASSES * 5)[:64]]
 
 # A call that takes more, and writes no more, is named at the end.
 MOST_SECONDS, MOST_BYTES, MOST_WRITTEN = 10, 1_000_000_000, 64_000_000
@@ -171,7 +176,7 @@ def call(mir: str, shape: str, words: str, text: Path, folder: Path, seconds: in
         (os.POSIX_SPAWN_OPEN, 1, output, write, 0o600),
         (os.POSIX_SPAWN_OPEN, 2, errors, write, 0o600),
     ]
-    arguments = ['sh', '-c', START, 'sh', str(seconds), str(memory * 1000), mir, *words.split()]
+    arguments = ['sh', '-c', START, 'sh', str(seconds), str(memory * 1000), mir, *(CHAIN if words == 'passes 64' else words.split())]
     shell = os.posix_spawn('/bin/sh', arguments, os.environ, file_actions=streams)
     os.waitpid(shell, 0)
     _, status, usage = os.wait4(-1, 0)

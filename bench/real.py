@@ -20,7 +20,8 @@ different ones, each of which is shown; the status is 1 where there is one.
 
 Beside it the operators of whole runs are counted by `run`: of the text, of what commands make of it, and of what LLVM
 leaves of the same IR, which is brought in like the source, so that the unit is the same. `--table` shows the programs
-in which LLVM leaves least beside `optimise`. The time is that of native programs, by `bench/native_times.py`.
+in which LLVM leaves least beside `optimise`. Of each set it is told which programs have a run in which `thorough`
+evaluates more operators than `optimise`. The time is that of native programs, by `bench/native_times.py`.
 
 With `--fill` the tables are put into README.md beside this file, behind the line `<!-- bench/real.py -->`; those of a
 set that is not named stay. Where a set takes more than its part of `--minutes`, what is done by then is told. With
@@ -119,7 +120,7 @@ def ran(words: list, text: bytes = b'', seconds: int = 600, folder: Optional[Pat
     try:
         return subprocess.run(plain, input=text, capture_output=True, timeout=seconds, cwd=folder)
     except subprocess.TimeoutExpired:
-        return Call(words, None, b'', b'')
+        return Call(words, None, b'', f'no end within {seconds} seconds'.encode())
 
 
 class Bench:
@@ -244,6 +245,7 @@ class Bench:
             if (report.printed, report.end) != (wanted.printed, wanted.end) or more:
                 outcome.state = 'different'
                 outcome.shown.append(f'{way}: wanted {wanted}, found {report}')
+        outcome.is_more = outcome.has_both() and outcome.evals['thorough'] > outcome.evals['optimise']
         return outcome
 
     def left_by_llvm(self, ir: str, entries: Iterable[str]) -> dict:
@@ -295,7 +297,8 @@ class Bench:
 def together(every: list[Outcome]) -> Outcome:
     """The outcome of all runs of a program: of those that end."""
     ended = [each for each in every if each.state in ('same', 'different')] or every[:1]
-    whole = Outcome(ended[0].name, ended[0].state, is_long=any(each.is_long for each in ended))
+    whole = Outcome(ended[0].name, ended[0].state, is_long=any(each.is_long for each in ended),
+                    is_more=any(each.is_more for each in ended))
     for each in ended:
         whole.state = 'different' if 'different' in (each.state, whole.state) else whole.state
         whole.shown += each.shown
@@ -328,6 +331,9 @@ def print_counts(title: str, outcomes: list[Outcome]) -> None:
     notes = collections.Counter(re.sub(': .*', '', note) for each in same for note in each.shown)
     for note, count in notes.items():
         print(f'{count:6} of them: {note}')
+    more = [each.name for each in outcomes if each.is_more]
+    print(f'thorough evaluates more operators than optimise in {len(more)} of '
+          f'{sum(each.has_both() for each in outcomes)} programs', *more)
     print(*real_tables.lines(title, outcomes), sep='\n', flush=True)
 
 

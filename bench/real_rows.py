@@ -11,13 +11,19 @@ from native_times import Prepared, Times
 
 @dataclass
 class Outcome:
-    """What became of a program: `same`, `different` or why it is not compared; and the operators of its runs."""
+    """What became of a program: `same`, `different` or why it is not compared; the operators of its runs; and whether in
+    one of them what `thorough` makes evaluates more than what `optimise` makes."""
 
     name: str
     state: str
     shown: list[str] = field(default_factory=list)
     evals: dict[str, int] = field(default_factory=dict)
     is_long: bool = False
+    is_more: bool = False
+
+    def has_both(self) -> bool:
+        """Whether the operators of all its runs were counted under `optimise` and under `thorough`."""
+        return {'optimise', 'thorough'} <= set(self.evals)
 
 
 class Rows:

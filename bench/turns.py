@@ -5,8 +5,9 @@ is a program to be rewritten, beside the turns that change something.
     bench/turns.py [--mir PATH] [--greatest] [WORKLOAD ..]
 
 Each text has the least size of its workload, or with `--greatest` the greatest. A turn that changes nothing is made behind
-the last that changes something, so where one does, the passes of `optimise` are made three times and those beside them
-twice. It runs on Linux alone, and wants valgrind.
+the last that changes something, so where one does, the passes of `optimise` are made twice. What they get in the first
+turn is what `tails` and `join` leave: where this is longer than the text, `optimise` is counted on it too. It runs on Linux
+alone, and wants valgrind.
 """
 
 import argparse
@@ -33,15 +34,26 @@ def words_of_turn() -> list[str]:
     return ['passes', *re.findall(r'Pass::(\w+)', found[1].lower().replace('pass::', 'Pass::'))]
 
 
+def written(mir: str, words: list[str], text: str) -> str:
+    """What the program writes for a text."""
+    return subprocess.run([mir, *words], input=text, capture_output=True, text=True, check=True).stdout
+
+
 def turns_of(mir: str, text: str) -> int:
     """How many turns change something, at most as many as are made."""
-    last = subprocess.run([mir, 'passes'], input=text, capture_output=True, text=True, check=True).stdout
+    last = written(mir, ['passes'], text)
     for made in range(MOST_TURNS):
-        said = subprocess.run([mir, *words_of_turn()], input=last, capture_output=True, text=True, check=True).stdout
+        said = written(mir, words_of_turn(), last)
         if said == last:
             return made
         last = said
     return MOST_TURNS
+
+
+def joined_of(mir: str, text: str) -> str:
+    """What `tails` and `join` leave of a text where it is longer by more than a tenth, else nothing."""
+    joined = written(mir, ['passes', 'tails', 'join'], text)
+    return joined if len(joined) > 1.1 * len(written(mir, ['passes'], text)) else ''
 
 
 def texts(greatest: bool) -> dict[str, tuple[int, str]]:
@@ -68,14 +80,16 @@ def main() -> int:
     if unknown:
         asked.error(f'no such workload: {", ".join(sorted(unknown))}')
     adopt_orphans()
-    print('| Workload | Size | Turns | `optimise` | `thorough` | x |')
+    print('| Workload | Size | Turns | `optimise` | `thorough` | x | `optimise` of joined | x |')
     with tempfile.TemporaryDirectory(prefix='mir-bench-') as folder:
         for name in given.workloads or sizes:
             size, text = sizes[name]
-            once, often = (instructions(mir, Case(size, [word], text, ENDED, None), Path(folder)) / 1e6
-                           for word in ('optimise', 'thorough'))
-            print(f'| `{name}` | {size:,} | {turns_of(mir, text)} | {once:,.1f} | {often:,.1f} | {often / once:.2f} |',
-                  flush=True)
+            joined = joined_of(mir, text)
+            once, often, behind = (instructions(mir, Case(size, [word], of, ENDED, None), Path(folder)) / 1e6 if of else 0
+                                   for word, of in (('optimise', text), ('thorough', text), ('optimise', joined)))
+            beside = f' {behind:,.1f} | {often / behind:.2f} |' if joined else ' | |'
+            print(f'| `{name}` | {size:,} | {turns_of(mir, text)} | {once:,.1f} | {often:,.1f} | {often / once:.2f} |'
+                  + beside, flush=True)
     return 0
 
 
