@@ -1,6 +1,8 @@
-"""What the pages name: links, files, and words of the code. `docs/check` asks here whether each of them is there."""
+"""What the pages name: links, files, and words of the code. `docs/check` asks here whether each of them is there, and a word
+beside a crate or a file (`word` of `crate`, `Word` (`specs/File.antt`)) in that crate or file."""
 
 import functools
+import os
 import re
 import subprocess
 from pathlib import Path
@@ -16,6 +18,10 @@ QUOTED = re.compile(r'`([^`\n]+)`')
 FILE = re.compile(rf'[\w/-][\w./-]*\.(?:{ENDS})')
 # Words of the code are told from plain ones by a capital behind a small letter, or by a line between two parts.
 WORD = re.compile(r'[A-Za-z][a-z0-9]+[A-Z]\w*|[a-z][a-z0-9]*(?:_[a-z0-9]+)+')
+NAME = re.compile(r"[A-Za-z_][\w']*(?:::[\w']+)*")
+# Words, and a crate, a file or another word that they are said to be of; words, and the files of definitions beside them.
+OF = re.compile(r'((?:`[^`]+`(?:, and |, | and | or ))*`[^`]+`) (?:of|in) (`[\w./-]+`)')
+BESIDE = re.compile(r'((?:`[^`./]+`(?:, and |, | and | or ))*`[^`./]+`)(?:, | \()((?:`[\w/]+\.antt`(?:, )?)+)')
 
 
 @functools.lru_cache(maxsize=None)
@@ -46,6 +52,35 @@ def words() -> set[str]:
         if name.endswith(SOURCES) or (name.startswith(('tools/', 'bench/', 'docs/', '.ci/')) and '.' not in Path(name).name):
             found |= set(re.findall(r'\w+', (TOP / name).read_text(encoding='utf-8', errors='replace')))
     return found
+
+
+@functools.lru_cache(maxsize=None)
+def words_in(name: str) -> set[str]:
+    """The words of a file."""
+    return set(re.findall(r'\w+', (TOP / name).read_text(encoding='utf-8', errors='replace')))
+
+
+@functools.lru_cache(maxsize=None)
+def sources() -> dict[str, list[str]]:
+    """The files of each crate."""
+    found: dict[str, list[str]] = {}
+    for name in files():
+        if name.startswith('crates/') and name.endswith(SOURCES):
+            found.setdefault(name.split('/')[1], []).append(name)
+    return found
+
+
+@functools.lru_cache(maxsize=None)
+def words_of(crate: str) -> set[str]:
+    """The words of a crate."""
+    return set().union(*map(words_in, sources()[crate]))
+
+
+@functools.lru_cache(maxsize=None)
+def functions(crate: str) -> set[str]:
+    """The functions of a crate, whose clauses cite the words of its definitions."""
+    texts = ((TOP / name).read_text(encoding='utf-8') for name in sources()[crate] if name.endswith('.rt'))
+    return {each for text in texts for each in re.findall(r'\bfn (\w+)', text)}
 
 
 @functools.lru_cache(maxsize=None)
@@ -88,6 +123,39 @@ def wrong_names(page: Path, text: str) -> Iterator[str]:
             yield f'names {quoted}, which stands in no source'
 
 
+def stands_in(word: str, place: str, page: Path) -> bool:
+    """Whether a word stands where a page has it, or a file in a crate: in the crate, in one of the files of this name, those
+    of the page's crate before others, or in one file with the other word. In the place of what a function's clauses cite
+    there may be the function."""
+    parts = set(re.findall(r'\w+', word))
+    if place in sources() and FILE.fullmatch(word):
+        return any(name.endswith('/' + word) for name in sources()[place])
+    if not NAME.fullmatch(word):
+        return True
+    if place in sources():
+        return parts <= words_of(place)
+    if FILE.fullmatch(place) and any(name.endswith('/' + place) for name in sources().get(word, [])):
+        return True
+    if FILE.fullmatch(place):
+        found = [name for name in files() if name == place or name.endswith('/' + place)]
+        own = [name for name in found if name.startswith(f'{os.path.relpath(page.parent, TOP)}/')] or found
+        return not own or any(parts <= words_in(name) or name.startswith('crates/') and parts & functions(name.split('/')[1])
+                              for name in own)
+    if not re.fullmatch(r'\w+', place) or not (WORD.fullmatch(word) or WORD.fullmatch(place)):
+        return True
+    return any(parts | {place} <= words_in(name) for each in sources().values() for name in each)
+
+
+def misplaced(page: Path, text: str) -> Iterator[str]:
+    """The words of a page that do not stand in the crate or the file that is named beside them."""
+    flat = ' '.join(FENCE.sub('', text).split())
+    for found in [*OF.finditer(flat), *BESIDE.finditer(flat)]:
+        places = QUOTED.findall(found[2])
+        for word in QUOTED.findall(found[1]):
+            if not any(stands_in(word, place, page) for place in places):
+                yield f'names {word} of {", ".join(places)}, where it does not stand'
+
+
 def pages() -> list[Path]:
     """The pages that are looked at."""
     return sorted({page for pattern in PAGES for page in TOP.glob(pattern)})
@@ -96,4 +164,4 @@ def pages() -> list[Path]:
 def wrong(page: Path) -> list[str]:
     """All that a page names and is not there."""
     text = page.read_text(encoding='utf-8')
-    return [*wrong_links(page, text), *wrong_names(page, text)]
+    return [*wrong_links(page, text), *wrong_names(page, text), *misplaced(page, text)]
