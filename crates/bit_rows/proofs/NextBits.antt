@@ -39,7 +39,7 @@ module _ (word from : ℕ) where
 
 -- ---- in words
 
--- a bit of a word is a bit of the words
+-- bit j of word i is bit 64 * i + j of the words
 pub bit_in_word : (ws : List ℕ) (i j : ℕ) → j < 64 → bit_of ws (64 * i + j) ≡ eqb (bit_at (get_or ws i 0) j) 1
 unfolding bit_of
 bit_in_word ws i j h =

@@ -40,7 +40,8 @@ EachOrMinus len old other less new = (k : ℕ) → k < len
 abbrev pub EachOrPassed : ℕ → List ℕ → List ℕ → List ℕ → List ℕ → List ℕ → Type 0
 EachOrPassed len old other more less new = (k : ℕ) → k < len
     → slice_index new k
-    ≡ bit_or (slice_index old k) (minus_word (bit_or (slice_index other k) (slice_index more k)) (slice_index less k))
+    ≡ bit_or (slice_index old k)
+    (minus_word (bit_or (slice_index other k) (slice_index more k)) (slice_index less k))
 
 -- each is made of the old one and another list's by the first operator, and of that and a third list's by the second
 abbrev pub EachByTwo : (ℕ → ℕ → ℕ) → (ℕ → ℕ → ℕ) → ℕ → List ℕ → List ℕ → List ℕ → List ℕ → Type 0
@@ -60,7 +61,8 @@ with_bit word i value = if value then bit_or word (2 ^ i) else bit_and word (bit
 
 -- the words with one of their bits set or cleared
 abbrev pub words_with_bit : List ℕ → ℕ → Bool → List ℕ
-words_with_bit words bit value = slice_set words (bit / 64) (with_bit (slice_index words (bit / 64)) (bit % 64) value)
+words_with_bit words bit value =
+    slice_set words (bit / 64) (with_bit (slice_index words (bit / 64)) (bit % 64) value)
 
 -- the bits of the word of this number that stand below n, all set
 abbrev pub used_bits : ℕ → ℕ → ℕ
@@ -93,4 +95,5 @@ pub record Rewritten (stride row : ℕ) (before after : List ℕ) : Type 0 where
 
 -- each word of a row is made of the old one and another list's by the operator
 abbrev pub EachWordOfRow : (ℕ → ℕ → ℕ) → ℕ → ℕ → List ℕ → List ℕ → List ℕ → Type 0
-EachWordOfRow op stride row old other new = EachWord op stride (words_at stride old row) other (words_at stride new row)
+EachWordOfRow op stride row old other new =
+    EachWord op stride (words_at stride old row) other (words_at stride new row)

@@ -36,7 +36,10 @@ with_calls to unit = record unit { body = map (redirected_call to) unit.body }
 -- the marked units in their order, with their new numbers in calls; the globals stay
 abbrev pub only_marked : List Bool → ProgramShape → ProgramShape
 only_marked marks program =
-    record { globals = program.globals; units = map (with_calls (marked_below marks)) (marked marks program.units) }
+    record {
+      globals = program.globals;
+      units = map (with_calls (marked_below marks)) (marked marks program.units);
+    }
 
 -- the program of the units that calls lead to
 pub record HasCalledUnits (source target : ProgramShape) : Type 0 where

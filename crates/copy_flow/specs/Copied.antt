@@ -21,7 +21,8 @@ reread_node read (Skip next) = Skip next
 reread_node read (Assign x rhs next) = assigned_unless_itself x (renamed_rhs read rhs) next
 reread_node read (Print a next) = Print (renamed_operand read a) next
 reread_node read (Guard test number next) = Guard (renamed_test read test) number next
-reread_node read (Call into unit operands next) = Call into unit (map (renamed_operand read) operands) next
+reread_node read (Call into unit operands next) =
+    Call into unit (map (renamed_operand read) operands) next
 reread_node read (Test test taken other) = Test (renamed_test read test) taken other
 reread_node read (Return a) = Return (renamed_operand read a)
 

@@ -10,7 +10,8 @@ use Rattle.copy_flow.specs.declared.table.VarCopy.{VarCopy}
 
 -- the copy of the one variable in the other, unless they are one
 abbrev pub copy_between : ℕ → ℕ → Option VarCopy
-copy_between target source = if nat_eq target source then None else Some (record { target = target; source = source })
+copy_between target source =
+    if nat_eq target source then None else Some (record { target = target; source = source })
 
 -- the copy that an assignment to x is
 abbrev pub copy_by_rhs : ℕ → Rhs → Option VarCopy

@@ -45,7 +45,8 @@ is_ended graph c n = ends_at graph c.target c.source n
 
 -- a row for each node and a bit for each copy of the table: whether it holds before the node
 abbrev pub AreHeldRows : GraphShape → List VarCopy → List (List Bool) → Type 0
-AreHeldRows graph table rows = AreKeyRowsWhere (length graph.nodes) table (λ c. IsCopyOf graph c.target c.source) rows
+AreHeldRows graph table rows =
+    AreKeyRowsWhere (length graph.nodes) table (λ c. IsCopyOf graph c.target c.source) rows
 
 -- ---- what is read
 
@@ -68,7 +69,8 @@ HaveNoneInBoth row other = (k : ℕ) → in_both row other k ≡ false
 abbrev pub read_in : List VarCopy → List Bool → ℕ → ℕ
 read_in [] row v = v
 read_in (c ∷ table) [] v = v
-read_in (c ∷ table) (bit ∷ row) v = if bit && nat_eq c.target v then c.source else read_in table row v
+read_in (c ∷ table) (bit ∷ row) v =
+    if bit && nat_eq c.target v then c.source else read_in table row v
 
 -- the copies in so many variables, those in each variable, and rows by nodes of those that hold
 pub record IsLookup (vars nodes : ℕ) (copies : HeldCopies) : Type 0 where

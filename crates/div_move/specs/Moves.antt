@@ -20,7 +20,9 @@ use Rattle.div_move.specs.MustCome.{MustComeTo, RunsComeTo}
 -- that uses it, after steps that show nothing, and the variables that it reads have their values still
 abbrev pub InsertionsCome : GraphShape → List Expr → Placement → Type 0
 InsertionsCome graph table p =
-    ForEachExpr table (λ i e. (n : ℕ) → n < length graph.nodes → has_bit p.insert i n ≡ true → RunsComeTo graph e n)
+    ForEachExpr table
+    (λ i e. (n : ℕ) → n < length graph.nodes → has_bit p.insert i n ≡ true
+    → RunsComeTo graph e n)
 
 -- the table has the expressions that divide, in order of the first node that evaluates each; the placement is their
 -- lazy one, and the graph is rewritten by it

@@ -46,7 +46,8 @@ halts node = is_observable node || is_division node
 abbrev pub node_hinders : GraphShape → Expr → Option Node → Bool
 node_hinders graph e None = false
 node_hinders graph e (Some node) =
-    node_kills graph e (Some node) || (is_observable node || (is_division node && not (node_uses e (Some node))))
+    node_kills graph e (Some node)
+    || (is_observable node || (is_division node && not (node_uses e (Some node))))
 
 -- node n does
 abbrev pub hinders : GraphShape → Expr → ℕ → Bool

@@ -52,7 +52,8 @@ abbrev pub down_bits : Bool → List Bool → List Bool → List (Bool × Bool) 
 down_bits halt [] kills known = []
 down_bits halt (used ∷ uses) [] known = []
 down_bits halt (used ∷ uses) (killed ∷ kills) [] = []
-down_bits halt (used ∷ uses) (killed ∷ kills) (k ∷ known) = down_bit halt used killed k ∷ down_bits halt uses kills known
+down_bits halt (used ∷ uses) (killed ∷ kills) (k ∷ known) =
+    down_bit halt used killed k ∷ down_bits halt uses kills known
 
 -- what becomes known of a predecessor: its first slot, and its second, where they lead to the node
 abbrev pub arriving : Bool → Bool → List Bool → List (Bool × Bool)

@@ -1,5 +1,5 @@
 -- What rows of bits say from which the earliest nodes are read, of one bit and of all. A bit stands for an expression,
--- and says by node where it is used, killed, available or down. Cited by contracts of private functions.
+-- and says by node where it is used, killed, available or anticipatable. Cited by contracts of private functions.
 use Rattle.std.specs.Prelude.{◌≡◌, ◌<◌, ℕ, Bool, true, not, ◌||◌, List, length}
 use Rattle.flow_graph.specs.declared.nodes.Node.{Node}
 use Rattle.flow_graph.specs.Graphs.{GraphShape}
@@ -14,29 +14,35 @@ abbrev pub IsAvailableBit : List Node → (ℕ → Bool) → (ℕ → Bool) → 
 IsAvailableBit nodes used killed n = (before : List ℕ) → Trace nodes n before
     → ReachesAlong (λ m. used m ≡ true) killed before
 
--- a frontier: the node kills, or is neither up nor down, so nothing is evaluated before it for what follows it
+-- a frontier: the node kills, or it is neither available nor anticipatable before it, so that nothing is
+-- evaluated before it for what follows it
 abbrev pub is_frontier : Bool → Bool → Bool → Bool
-is_frontier killed up down = killed || not (up || down)
+is_frontier killed available anticipatable = killed || not (available || anticipatable)
 
--- earliest: n is down, and some predecessor is a frontier
+-- earliest: it is anticipatable before n, and some predecessor is a frontier
 abbrev pub IsEarliestBit : List Node → (ℕ → Bool) → (ℕ → Bool) → (ℕ → Bool) → ℕ → Type 0
-IsEarliestBit nodes killed up down n = (down n ≡ true)
-    × ((m : ℕ) × HasEdge nodes m n × (is_frontier (killed m) (up m) (down m) ≡ true))
+IsEarliestBit nodes killed available anticipatable n = (anticipatable n ≡ true)
+    × ((m : ℕ) × HasEdge nodes m n
+    × (is_frontier (killed m) (available m) (anticipatable m) ≡ true))
 
 -- ---- all bits
 
 -- the rows say where each bit is available
 abbrev pub AreAvailableRows : GraphShape → List (List Bool) → List (List Bool) → List (List Bool)
     → Type 0
-AreAvailableRows graph uses kills rows = Tell graph (width kills) rows (λ b. IsAvailableBit graph.nodes (has_bit uses b) (has_bit kills b))
+AreAvailableRows graph uses kills rows = Tell graph (width kills) rows
+    (λ b. IsAvailableBit graph.nodes (has_bit uses b) (has_bit kills b))
 
 -- the rows say where each bit has a frontier
 abbrev pub AreFrontierRows : List (List Bool) → List (List Bool) → List (List Bool)
     → List (List Bool) → Type 0
-AreFrontierRows kills up down rows = (n b : ℕ) → n < length kills → b < width kills
-    → has_bit rows b n ≡ is_frontier (has_bit kills b n) (has_bit up b n) (has_bit down b n)
+AreFrontierRows kills available anticipatable rows = (n b : ℕ) → n < length kills → b < width kills
+    → has_bit rows b n
+    ≡ is_frontier (has_bit kills b n) (has_bit available b n) (has_bit anticipatable b n)
 
 -- the rows say where each bit is earliest
 abbrev pub AreEarliestRows : GraphShape → List (List Bool) → List (List Bool) → List (List Bool)
     → List (List Bool) → Type 0
-AreEarliestRows graph kills up down rows = Tell graph (width kills) rows (λ b. IsEarliestBit graph.nodes (has_bit kills b) (has_bit up b) (has_bit down b))
+AreEarliestRows graph kills available anticipatable rows = Tell graph (width kills) rows
+    (λ b. IsEarliestBit graph.nodes (has_bit kills b) (has_bit available b)
+    (has_bit anticipatable b))

@@ -134,7 +134,7 @@ module _ (join : ℕ → Bool) where
   apart_count : (t n : ℕ) → (t ≡ n → ⊥) → ◌≡◌ {A = ℕ} (if nat_eq t n then 1 else 0) 0
   apart_count t n apart = ap {B = ℕ} (λ b. cond b 1 0) (ne_eqb t n apart)
 
-  -- an old node: as often as before, by an old node or by a new Skip
+  -- an old node is entered as often as before, by kept edges and new Skips together
   pub old_times : (n : ℕ) (ts : List ℕ) (k : ℕ) → n < k → times_in n (through_skips join k ts) + times_in n (filter join ts) ≡ times_in n ts
   old_times n [] k lt = refl
   old_times n (t ∷ ts) k lt =

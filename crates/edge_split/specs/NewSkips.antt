@@ -13,7 +13,8 @@ MakesSkips old new succs = new.made.items
 
 -- these successors, or the next new Skips in the place of those that are joins
 abbrev pub succs_through : NewSkips → List ℕ → List ℕ
-succs_through skips succs = through_skips (has_more skips.entries.items) (skips.first + length skips.made.items) succs
+succs_through skips succs =
+    through_skips (has_more skips.entries.items) (skips.first + length skips.made.items) succs
 
 -- the node with such successors
 abbrev pub node_through : NewSkips → Node → Node

@@ -66,7 +66,8 @@ rerouted join k (node ∷ nodes) =
 
 -- the old nodes, whose edges into joins lead to new Skips, and after them these Skips, one for each such edge
 abbrev pub split_nodes : List Node → List Node
-split_nodes nodes = rerouted (is_join nodes) (length nodes) nodes ++ map (λ edge. Skip edge.target) (joining nodes)
+split_nodes nodes =
+    rerouted (is_join nodes) (length nodes) nodes ++ map (λ edge. Skip edge.target) (joining nodes)
 
 -- the graph with new Skips, in which old nodes keep their numbers
 pub record IsEdgeSplit (graph result : GraphShape) : Type 0 where

@@ -35,7 +35,8 @@ pub record AreAllNew {N : Type 0} (is_all : N → Type 0) (news : List N) : Type
 pub record Telling {V N : Type 0} (net : Net V) (caught : ℕ → N → V → V → Type 0) (values : List V)
     (news : List N) : Type 0 where
   pub along : (d : N) (e : ℕ) → e < net.edges
-      → caught e (slice_index_or news (net.source e) d) (value_at net values (net.source e)) (value_at net values (net.target e))
+      → caught e (slice_index_or news (net.source e) d) (value_at net values (net.source e))
+      (value_at net values (net.target e))
 
 -- ---- flows that tell no news
 

@@ -17,12 +17,12 @@ total_rank rank (x ∷ xs) = rank x + total_rank rank xs
 -- ---- it is an order where that of the items is one
 
 module _ {A : Type 0} (below : A → A → Type 0) where
-  -- reflexive
+  -- each list is below itself where each item is
   pub pointwise_refl : ((x : A) → below x x) → (xs : List A) → Pointwise below xs xs
   pointwise_refl itself [] = tt
   pointwise_refl itself (x ∷ xs) = (itself x, pointwise_refl itself xs)
 
-  -- transitive
+  -- the order of lists is transitive where that of the items is
   pub pointwise_trans : ((x y z : A) → below x y → below y z → below x z) → (xs ys zs : List A) → Pointwise below xs ys
       → Pointwise below ys zs → Pointwise below xs zs
   pointwise_trans through [] [] [] p q = tt

@@ -48,9 +48,12 @@ AllDoneBut net node e = net.source e ≡ node → e < net.start node
 -- what a push along an edge leaves, and whether it changed the target
 pub record Pushed {V : Type 0} (below : V → V → Type 0) (net : Net V) (number : ℕ)
     (before after : List V) (changes : Bool) : Type 0 where
-  pub joined : IsLeastUpper below (value_at net before (net.target number)) (net.transfer number (value_at net before (net.source number))) (value_at net after (net.target number))
+  pub joined : IsLeastUpper below (value_at net before (net.target number))
+      (net.transfer number (value_at net before (net.source number)))
+      (value_at net after (net.target number))
   pub others : after ≡ slice_set before (net.target number) (value_at net after (net.target number))
-  pub unchanged : (changes ≡ false) ↔ (value_at net after (net.target number) ≡ value_at net before (net.target number))
+  pub unchanged : (changes ≡ false)
+      ↔ (value_at net after (net.target number) ≡ value_at net before (net.target number))
 
 -- the sum of the first values of a function
 unfoldable pub sum_below : (ℕ → ℕ) → ℕ → ℕ
@@ -63,7 +66,8 @@ visits_left height waits rank = (if waits then 1 else 0) + (height - rank)
 
 -- how often nodes may still be visited, added up over the nodes, each visit with the weight of its node
 abbrev pub load : {V : Type 0} → Net V → (V → ℕ) → (ℕ → ℕ) → (ℕ → V) → (ℕ → Bool) → ℕ
-load net rank weight values waits = sum_below (λ n. weight n * visits_left net.height (waits n) (rank (values n))) net.nodes
+load net rank weight values waits =
+    sum_below (λ n. weight n * visits_left net.height (waits n) (rank (values n))) net.nodes
 
 -- how many edges leave a node
 abbrev pub degree : {V : Type 0} → Net V → ℕ → ℕ

@@ -87,7 +87,7 @@ all_unplaced none zero = refl
 all_unplaced none (suc n) = omega (arith, ap {B = ℕ} (λ v. cond v 1 0) (eq-eqb none none refl), all_unplaced none n)
 
 module _ {A : Type 0} (none n block : ℕ) (order : Vec ℕ A) (block_of : List ℕ) (h : n < length block_of) (is : get_or block_of n none ≡ none) (other : block ≢ none) (room : HasRoomForUnplaced none order block_of) where
-  -- a node that has no block has a place
+  -- while a node stands in no block, `order` has room for it
   pub place_left : vec_len order < vec_capacity order
   place_left = omega (arith, room, unplaced_less none n block block_of h is other)
 
@@ -318,7 +318,7 @@ room_none n order block_of len capacity is = omega (arith, len, capacity, ap (un
 pub kept_on : (nodes : List Node) (n : ℕ) (order starts block_of : List ℕ) → AreStored nodes n order starts block_of → is_first nodes n ≡ false → AreStored nodes (n + 1) order starts block_of
 kept_on nodes n order starts block_of kept inner = record { starts_are = kept.starts_are; made = made_on nodes n (parts_at order starts) block_of kept.made inner }
 
--- a node that is adds its block
+-- a node that is the first of its block adds the nodes of this block
 pub kept_more : (nodes : List Node) (head node block : ℕ) (order longer starts more block_of after : List ℕ) → AreStored nodes head order starts block_of → block + 1 ≡ length starts → head < length nodes → is_first nodes head ≡ true
     → IsBlockSoFar nodes head node block order longer block_of after → IsLast nodes node → more ≡ starts ++ length longer ∷ [] → AreStored nodes (head + 1) longer more after
 kept_more nodes head node block order longer starts more block_of after kept block_is there first followed last more_is =

@@ -10,7 +10,7 @@ use Rattle.flow_graph.specs.RetainedLaws.{at_rank}
 use Rattle.flow_graph.specs.NodeLaws.{mapped_from, redirected_start, redirected_succs, redirected_succs_of, redirected_vars}
 use Rattle.flow_graph.specs.BoundLaws.{reached_within}
 
--- a retained one and its old number
+-- item n of those that the marks retain, with its number m in the whole list
 record Preimage {A : Type 0} (marks : List Bool) (xs : List A) (n : ℕ) (x : A) : Type 0 where
   m : ℕ
   marks_it : slice_get marks m ≡ Some true

@@ -34,7 +34,7 @@ none_only [] y e = cc
 none_only (x ∷ []) y e = cc
 none_only (x ∷ z ∷ xs) y e = refl
 
--- a list of one item
+-- a list of length 1 has one item
 pub only_one : (xs : List ℕ) → length xs ≡ 1 → (x : ℕ) × (xs ≡ x ∷ [])
 only_one [] e = absurd (omega (arith, e))
 only_one (x ∷ []) e = (x, refl)

@@ -7,15 +7,15 @@ use Rattle.flow_graph.specs.declared.nodes.Node.TheVariants.{Start, Skip, Assign
 use Rattle.flow_graph.specs.Graphs.{node_succs, succs_of, succs_at, AllWithin, IsEdge, SuccsBelow, Reached, at_start, along, slot_of}
 use Rattle.flow_graph.specs.Paths.{HasEdge}
 
--- ---- only a node of the list has an edge
+-- ---- a number from which an edge leads is that of a node
 
--- by slot
+-- where it leads from a slot
 pub slot_within : (nodes : List Node) (m slot s : ℕ) → IsEdge nodes m slot s → m < length nodes
 slot_within [] m slot s e = cc
 slot_within (node ∷ nodes) zero slot s e = omega arith
 slot_within (node ∷ nodes) (suc m) slot s e = omega (arith, slot_within nodes m slot s e)
 
--- by node
+-- where it leads from any slot
 pub edge_within : (nodes : List Node) (m s : ℕ) → HasEdge nodes m s → m < length nodes
 edge_within nodes m s edge = slot_within nodes m edge.0 s edge.1
 

@@ -31,7 +31,8 @@ pub record DivisionsLowered (unit : UnitShape) (graph : GraphShape) : Type 0 whe
       → InstDivides unit.body place x op left right
       → AllBelow (length unit.vars) (x ∷ operand_vars left ++ operand_vars right)
   pub stays : (place x : ℕ) (op : Op) (left right : Operand) → IsReachedPlace unit.body place
-      → InstDivides unit.body place x op left right → DividesOf graph.nodes (node place) x op left right
+      → InstDivides unit.body place x op left right
+      → DividesOf graph.nodes (node place) x op left right
   pub in_order : (place later x : ℕ) (op : Op) (left right : Operand)
       → IsReachedPlace unit.body place
       → InstDivides unit.body place x op left right → place < later → node place < node later
@@ -45,7 +46,8 @@ KeepNames to old new (x ∷ xs) = (slice_get new (to x) ≡ slice_get old x) × 
 -- divides; the variables have other numbers there, by which they have the names that they had
 pub record DividesAs (to : ℕ → ℕ) (old : List (List ℕ)) (unit : UnitShape) (place x : ℕ) (op : Op)
     (left right : Operand) : Type 0 where
-  pub is : InstDivides unit.body place (to x) op (renamed_operand to left) (renamed_operand to right)
+  pub is : InstDivides unit.body place (to x) op (renamed_operand to left)
+      (renamed_operand to right)
   pub names : KeepNames to old unit.vars (x ∷ operand_vars left ++ operand_vars right)
 
 -- each division of the graph is the instruction of the unit at `place` of its number, with its variable, its operator and

@@ -42,7 +42,8 @@ first_leaving n (edge ∷ edges) = (if nat_lt edge.source n then 1 else 0) + fir
 -- the edges that enter node s, in their order
 abbrev pub entering : ℕ → List Edge → List Edge
 entering s [] = []
-entering s (edge ∷ edges) = if nat_eq edge.target s then edge ∷ entering s edges else entering s edges
+entering s (edge ∷ edges) =
+    if nat_eq edge.target s then edge ∷ entering s edges else entering s edges
 
 -- the edges that enter nodes below n: first those of node 0, then those of node 1, and so on
 abbrev pub by_target : ℕ → List Edge → List Edge
@@ -56,7 +57,8 @@ first_entering n edges = length (by_target n edges)
 -- the sources of the edges that enter node s, one entry for each edge
 abbrev pub preds_among : ℕ → List Edge → List ℕ
 preds_among s [] = []
-preds_among s (edge ∷ edges) = if nat_eq edge.target s then edge.source ∷ preds_among s edges else preds_among s edges
+preds_among s (edge ∷ edges) =
+    if nat_eq edge.target s then edge.source ∷ preds_among s edges else preds_among s edges
 
 -- the same of the edges of these nodes
 abbrev pub preds_of : List Node → ℕ → List ℕ
@@ -120,4 +122,5 @@ all_skips nodes to (n ∷ ns) = is_skip_to to (slice_get nodes n) && all_skips n
 
 -- a node that is entered at most once, or by Skips alone
 abbrev pub enters_well : List Node → ℕ → Bool
-enters_well nodes s = if nat_lt 1 (length (preds_of nodes s)) then all_skips nodes s (preds_of nodes s) else true
+enters_well nodes s =
+    if nat_lt 1 (length (preds_of nodes s)) then all_skips nodes s (preds_of nodes s) else true

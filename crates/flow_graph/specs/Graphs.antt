@@ -103,7 +103,8 @@ node_reads graph (Skip next) = []
 node_reads graph (Assign x rhs next) = rhs_vars rhs
 node_reads graph (Print a next) = operand_vars a
 node_reads graph (Guard test number next) = test_vars test
-node_reads graph (Call into unit operands next) = shared_vars graph.shared ++ flat_map operand_vars operands
+node_reads graph (Call into unit operands next) =
+    shared_vars graph.shared ++ flat_map operand_vars operands
 node_reads graph (Test test taken other) = test_vars test
 node_reads graph (Return a) = shared_vars graph.shared ++ operand_vars a
 

@@ -60,7 +60,8 @@ plain_body received nodes plan =
 -- ---- the layout
 
 -- the variables and the body of the unit
-pub record IsLaid (shared : ℕ) (vars : List (List ℕ)) (received : List ℕ) (nodes : List Node) (names : List (List ℕ))
+pub record IsLaid (shared : ℕ) (vars : List (List ℕ)) (received : List ℕ) (nodes : List Node)
+    (names : List (List ℕ))
     (body : List Inst) : Type 0 where
   pub plan : List Item
   pub is_plan : IsWholePlan nodes plan

@@ -136,7 +136,8 @@ mapped_push f done done' left left' x y all pushed is taken so_far =
 
 -- the keys of the items ascend
 abbrev pub Ascends : {A : Type 0} → (A → ℕ) → List A → Type 0
-Ascends {A = A} key xs = (i j : ℕ) (x y : A) → i < j → slice_get xs i ≡ Some x → slice_get xs j ≡ Some y → key x < key y
+Ascends {A = A} key xs =
+    (i j : ℕ) (x y : A) → i < j → slice_get xs i ≡ Some x → slice_get xs j ≡ Some y → key x < key y
 
 -- each item of the one list is an item of the other
 abbrev pub AllAmong : {A : Type 0} → List A → List A → Type 0

@@ -58,4 +58,5 @@ pub record CanLower (shared : ℕ) (body : List Inst) : Type 0 where
 -- The graph of the unit. Of Start and the nodes of all places those that are reached are retained, in order of place,
 -- so that the receives, to which no target leads, have no node. Variables keep their numbers
 pub record IsLowered (unit : UnitShape) (graph : GraphShape) : Type 0 where
-  pub made : IsMade unit.name unit.shared unit.vars (received_in unit.body) (all_nodes unit.body) graph
+  pub made : IsMade unit.name unit.shared unit.vars (received_in unit.body)
+      (all_nodes unit.body) graph

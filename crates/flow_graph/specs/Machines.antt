@@ -25,24 +25,34 @@ node_transition shared received (Some (Start next)) frame =
       place = next;
       arguments = frame.arguments;
       values =
-          received_from 0 received frame.arguments (with_first (shared_values shared frame.values) all_zero);
+          received_from 0 received frame.arguments
+          (with_first (shared_values shared frame.values) all_zero);
     })
 node_transition shared received (Some (Skip next)) frame = Continues 0 (at next frame)
-node_transition shared received (Some (Assign x rhs next)) frame = assign_transition x rhs next frame
-node_transition shared received (Some (Print a next)) frame = Prints (operand_value frame.values a) (at next frame)
-node_transition shared received (Some (Guard test number next)) frame = guard_transition test number next frame
+node_transition shared received (Some (Assign x rhs next)) frame =
+    assign_transition x rhs next frame
+node_transition shared received (Some (Print a next)) frame =
+    Prints (operand_value frame.values a) (at next frame)
+node_transition shared received (Some (Guard test number next)) frame =
+    guard_transition test number next frame
 node_transition shared received (Some (Call into unit operands next)) frame =
-    Calls unit (record
-    { arguments = map (operand_value frame.values) operands; globals = shared_values shared frame.values }) into
+    Calls unit (record {
+      arguments = map (operand_value frame.values) operands;
+      globals = shared_values shared frame.values;
+    }) into
     (at next frame)
 node_transition shared received (Some (Test test taken other)) frame =
     Continues 0 (at (if test_holds frame.values test then taken else other) frame)
 node_transition shared received (Some (Return a)) frame =
-    Returns (record { value = operand_value frame.values a; globals = shared_values shared frame.values })
+    Returns (record {
+      value = operand_value frame.values a;
+      globals = shared_values shared frame.values;
+    })
 
 -- the place of a frame is the number of its node
 abbrev pub graph_code : ℕ → List ℕ → List Node → Code
-graph_code shared received nodes frame = node_transition shared received (slice_get nodes frame.place) frame
+graph_code shared received nodes frame =
+    node_transition shared received (slice_get nodes frame.place) frame
 
 -- the machine of nodes and received variables, with so many globals
 abbrev pub graph_machine : ℕ → List ℕ → List Node → Machine

@@ -15,7 +15,7 @@ set_keeps marks s n e = elim (cases_eq n s) [
   | inr other ↦ set_elsewhere marks s n true other ∙ e
 ]
 
--- what is marked then was marked, or is the node
+-- what is marked after node s was marked was marked before, or is s
 pub marked_before : (marks : List Bool) (s n : ℕ) → slice_get (slice_set marks s true) n ≡ Some true → (n ≡ s) ⊎ (slice_get marks n ≡ Some true)
 marked_before marks s n e = elim (cases_eq n s) [ inl p ↦ inl p | inr other ↦ inr (sym (set_elsewhere marks s n true other) ∙ e) ]
 

@@ -30,7 +30,8 @@ first_index (y ∷ ys) x = if nat_eq y x then 0 else suc (first_index ys x)
 -- a list of variables, and after it those of another list that are new, in the order of their first occurrence
 abbrev pub seen_after : List ℕ → List ℕ → List ℕ
 seen_after seen [] = seen
-seen_after seen (x ∷ xs) = if is_in x seen then seen_after seen xs else seen_after (seen ++ x ∷ []) xs
+seen_after seen (x ∷ xs) =
+    if is_in x seen then seen_after seen xs else seen_after (seen ++ x ∷ []) xs
 
 -- the globals, and the other variables that occur in a body, in the order of their first occurrence in its text
 abbrev pub seen_in : ℕ → List Inst → List ℕ
@@ -61,7 +62,8 @@ renamed to (insts.Receive x) = insts.Receive (to x)
 renamed to (insts.Assign x rhs) = insts.Assign (to x) (renamed_rhs to rhs)
 renamed to (insts.Goto place) = insts.Goto place
 renamed to (insts.If test place) = insts.If (renamed_test to test) place
-renamed to (insts.Call into unit operands) = insts.Call (option_map to into) unit (map (renamed_operand to) operands)
+renamed to (insts.Call into unit operands) =
+    insts.Call (option_map to into) unit (map (renamed_operand to) operands)
 renamed to (insts.Print a) = insts.Print (renamed_operand to a)
 renamed to (insts.TrapIf test number) = insts.TrapIf (renamed_test to test) number
 renamed to (insts.Return a) = insts.Return (renamed_operand to a)

@@ -23,7 +23,8 @@ open_at plan _ = None
 -- that successor
 abbrev pub first_open : List Node → List Item → List Item → Option ℕ
 first_open nodes plan [] = None
-first_open nodes plan (Placed n ∷ older) = option_or (first_open nodes plan older) (open_at plan (slice_get nodes n))
+first_open nodes plan (Placed n ∷ older) =
+    option_or (first_open nodes plan older) (open_at plan (slice_get nodes n))
 first_open nodes plan (Jump n ∷ older) = first_open nodes plan older
 
 -- a new stretch begins there
@@ -39,7 +40,8 @@ after_node nodes plan None = new_stretch nodes plan
 -- What comes after the items of a plan, if anything; the first item is Start's successor
 abbrev pub next_item : List Node → ℕ → List Item → Option Item
 next_item nodes first [] = Some (Placed first)
-next_item nodes first (Placed n ∷ older) = after_node nodes (Placed n ∷ older) (following (slice_get nodes n))
+next_item nodes first (Placed n ∷ older) =
+    after_node nodes (Placed n ∷ older) (following (slice_get nodes n))
 next_item nodes first (Jump n ∷ older) = new_stretch nodes (Jump n ∷ older)
 
 -- each item is what comes after those before it

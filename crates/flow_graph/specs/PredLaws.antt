@@ -17,12 +17,12 @@ preds_append s (e ∷ xs) ys = chosen (nat_eq e.target s) (preds_append s xs ys)
     chosen true p = ap (λ l. e.source ∷ l) p
     chosen false p = p
 
--- each is at least k, and each is k
+-- each number of the list is at least k
 abbrev AllFrom : ℕ → List ℕ → Type 0
 AllFrom k [] = Unit {0}
 AllFrom k (x ∷ xs) = (k ≤ x) × AllFrom k xs
 
--- each of them is k
+-- each number of the list is k
 abbrev pub AllAre : ℕ → List ℕ → Type 0
 AllAre k [] = Unit {0}
 AllAre k (x ∷ xs) = (x ≡ k) × AllAre k xs

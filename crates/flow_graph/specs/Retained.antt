@@ -56,7 +56,8 @@ pub record AreRetained (raw nodes : List Node) : Type 0 where
   pub are : nodes ≡ retained_nodes marks raw
 
 -- the graph with these nodes, of which the reached ones are retained
-pub record IsMade (name : List ℕ) (shared : ℕ) (vars : List (List ℕ)) (received : List ℕ) (raw : List Node)
+pub record IsMade (name : List ℕ) (shared : ℕ) (vars : List (List ℕ)) (received : List ℕ)
+    (raw : List Node)
     (graph : GraphShape) : Type 0 where
   pub name_is : graph.name ≡ name
   pub shared_is : graph.shared ≡ shared

@@ -11,14 +11,16 @@ abbrev pub frame_after_transition : (Frame → List Answer → Option Frame) →
 frame_after_transition go (Continues counted next) answers = go next answers
 frame_after_transition go (Prints value next) answers = go next answers
 frame_after_transition go (Calls unit entry into next) [] = None
-frame_after_transition go (Calls unit entry into next) (answer ∷ answers) = go (resumed into answer next) answers
+frame_after_transition go (Calls unit entry into next) (answer ∷ answers) =
+    go (resumed into answer next) answers
 frame_after_transition go (Returns answer) answers = None
 frame_after_transition go (Traps kind counted) answers = None
 
 -- the frame after n steps of `frame_run`, where the run goes on so far
 abbrev pub frame_after : Code → ℕ → Frame → List Answer → Option Frame
 frame_after code zero frame answers = Some frame
-frame_after code (suc n) frame answers = frame_after_transition (frame_after code n) (code frame) answers
+frame_after code (suc n) frame answers =
+    frame_after_transition (frame_after code n) (code frame) answers
 
 -- this is the frame of some run of the machine after some number of steps: with some arguments, first values of the
 -- globals and answers to its calls the run comes to its place, and the variables have its values

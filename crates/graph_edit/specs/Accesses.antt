@@ -82,7 +82,8 @@ abbrev pub blocks_pattern : GraphShape → ℕ → Rhs → Option Node → Bool
 blocks_pattern graph x t None = false
 blocks_pattern graph x t (Some node) =
     is_start node ||
-    (is_in x (node_reads graph node) || (assigns graph x node || list_any (λ y. assigns graph y node) (rhs_vars t)))
+    (is_in x (node_reads graph node)
+    || (assigns graph x node || list_any (λ y. assigns graph y node) (rhs_vars t)))
 
 -- the pattern x <- t occurs at node n
 abbrev pub occurs_at : ℕ → Rhs → GraphShape → ℕ → Bool

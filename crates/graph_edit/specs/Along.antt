@@ -14,7 +14,8 @@ abbrev pub StepsAlong : List ℕ → (Frame → List Answer → Type 0) → Tran
 StepsAlong rest Goes (Continues counted next) answers = Goes next answers
 StepsAlong rest Goes (Prints value next) answers = Goes next answers
 StepsAlong rest Goes (Calls unit entry into next) [] = ⊥
-StepsAlong rest Goes (Calls unit entry into next) (answer ∷ answers) = Goes (resumed into answer next) answers
+StepsAlong rest Goes (Calls unit entry into next) (answer ∷ answers) =
+    Goes (resumed into answer next) answers
 StepsAlong [] Goes (Returns answer) answers = Unit {0}
 StepsAlong (n ∷ rest) Goes (Returns answer) answers = ⊥
 StepsAlong rest Goes (Traps kind counted) answers = ⊥
@@ -34,8 +35,10 @@ RunsAlong machine entry answers path = GoesAlong machine.code path (first_frame 
 pub record RunsFollow (graph result : GraphShape) : Type 0 where
   pub follow : (path over : List ℕ) (entry : CallEntry) (answers : List Answer)
       → IsFullPath graph.nodes path
-      → IsOver graph.nodes result.nodes path over → IsEntry (machine_of graph) entry → AreAnswers graph.shared answers
-      → RunsAlong (machine_of graph) entry answers path → RunsAlong (machine_of result) entry answers over
+      → IsOver graph.nodes result.nodes path over → IsEntry (machine_of graph) entry
+      → AreAnswers graph.shared answers
+      → RunsAlong (machine_of graph) entry answers path
+      → RunsAlong (machine_of result) entry answers over
 
 -- the run of the graph with these arguments and answers goes along a full path, and that of the result along the
 -- corresponding path of it, at whose end it returns

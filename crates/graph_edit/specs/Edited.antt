@@ -15,12 +15,14 @@ number_or_none (Some n) = n
 -- where the edge of node m that leads to list s ends: an old node's at the first node of the list, a new node's at the
 -- next node of its own list
 abbrev pub leads : List (List ℕ) → ℕ → ℕ → ℕ
-leads lists m s = if nat_lt m (length lists) then number_or_none (slice_get (list_at lists s) 0) else number_or_none (node_after lists m)
+leads lists m s = if nat_lt m (length lists) then number_or_none (slice_get (list_at lists s) 0)
+    else number_or_none (node_after lists m)
 
 -- the nodes from number m on, with their edges
 abbrev pub edited_from : List (List ℕ) → ℕ → List Node → List Node
 edited_from lists m [] = []
-edited_from lists m (node ∷ nodes) = redirected (leads lists m) node ∷ edited_from lists (suc m) nodes
+edited_from lists m (node ∷ nodes) =
+    redirected (leads lists m) node ∷ edited_from lists (suc m) nodes
 
 -- the nodes of the graph: the first `used` of those kept, with their edges
 abbrev pub edited_nodes : List (List ℕ) → ℕ → List Node → List Node

@@ -20,7 +20,8 @@ past node new n = if nat_eq n node then new else n
 
 -- a new node gets the next number: all edges that entered `node` enter it, and its successor is `node`
 abbrev pub put_before : ℕ → ℕ → Rhs → List Node → List Node
-put_before node x rhs nodes = map (redirected (past node (length nodes))) nodes ++ Assign x rhs node ∷ []
+put_before node x rhs nodes =
+    map (redirected (past node (length nodes))) nodes ++ Assign x rhs node ∷ []
 
 -- one node changed
 abbrev pub change_at : ℕ → Change → List Node → List Node
@@ -43,7 +44,8 @@ put_each inserts (suc count) n nodes = put_each inserts count (suc n) (put_all n
 -- each of so many nodes from n on changed
 abbrev pub change_each : (ℕ → Change) → ℕ → ℕ → List Node → List Node
 change_each changes zero n nodes = nodes
-change_each changes (suc count) n nodes = change_each changes count (suc n) (change_at n (changes n) nodes)
+change_each changes (suc count) n nodes =
+    change_each changes count (suc n) (change_at n (changes n) nodes)
 
 -- ---- on graphs
 
@@ -84,4 +86,5 @@ graph_put_each inserts count graph = record graph { nodes = put_each inserts cou
 
 -- with each node below a bound changed
 abbrev pub graph_change_each : (ℕ → Change) → ℕ → GraphShape → GraphShape
-graph_change_each changes count graph = record graph { nodes = change_each changes count 0 graph.nodes }
+graph_change_each changes count graph = record graph
+    { nodes = change_each changes count 0 graph.nodes }

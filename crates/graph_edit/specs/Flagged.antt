@@ -16,7 +16,8 @@ removed_if false = Unchanged
 -- the nodes from number n on, of which each flagged assignment is a Skip with the same successor
 abbrev pub pruned_from : (ℕ → Bool) → ℕ → List Node → List Node
 pruned_from flagged n [] = []
-pruned_from flagged n (node ∷ nodes) = changed (removed_if (flagged n)) node ∷ pruned_from flagged (suc n) nodes
+pruned_from flagged n (node ∷ nodes) =
+    changed (removed_if (flagged n)) node ∷ pruned_from flagged (suc n) nodes
 
 -- the graph in which each flagged assignment is a Skip with the same successor
 abbrev pub graph_flagged : List Bool → GraphShape → GraphShape

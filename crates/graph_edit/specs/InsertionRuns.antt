@@ -22,12 +22,14 @@ use Rattle.graph_edit.specs.Over.{weight_at, new_weight_at}
 -- the values after them
 abbrev pub values_after : List Insertion → Values → Values
 values_after [] values = values
-values_after (put ∷ puts) values = values_after puts (with_value put.var (rhs_value values put.rhs) values)
+values_after (put ∷ puts) values =
+    values_after puts (with_value put.var (rhs_value values put.rhs) values)
 
 -- none of them traps
 abbrev pub none_traps : List Insertion → Values → Bool
 none_traps [] values = true
-none_traps (put ∷ puts) values = not (rhs_traps values put.rhs) && none_traps puts (with_value put.var (rhs_value values put.rhs) values)
+none_traps (put ∷ puts) values = not (rhs_traps values put.rhs)
+    && none_traps puts (with_value put.var (rhs_value values put.rhs) values)
 
 -- ---- values of the two sides
 
@@ -62,7 +64,8 @@ pub record Preserves (graph : GraphShape) (r : Rewriting) (Holds : ValueRelation
   pub traps : (n : ℕ) (before : List ℕ) (arguments : List ℤ) (v w : Values)
       → Trace graph.nodes n before → Holds n before v w → none_traps (r.inserts n) w ≡ false
       → (steps : ℕ)
-      × TrapsAfter (graph_code graph.shared graph.received graph.nodes) steps (record { place = n; arguments = arguments; values = v })
+      × TrapsAfter (graph_code graph.shared graph.received graph.nodes) steps
+      (record { place = n; arguments = arguments; values = v })
   -- what a node reads that is not changed has the same value on both sides
   pub reads : (n : ℕ) (node : Node) (before : List ℕ) (v w : Values) → Trace graph.nodes n before
       → slice_get graph.nodes n ≡ Some node → r.changes n ≡ Unchanged → Holds n before v w
@@ -72,13 +75,17 @@ pub record Preserves (graph : GraphShape) (r : Rewriting) (Holds : ValueRelation
   pub keeps : (n s : ℕ) (node : Node) (before : List ℕ) (v w v' w' : Values)
       → Trace graph.nodes n before → slice_get graph.nodes n ≡ Some node → HasEdge graph.nodes n s
       → r.changes n ≡ Unchanged → Holds n before v w → none_traps (r.inserts n) w ≡ true
-      → BothAssign (λ x. assigns graph x node) v (values_after (r.inserts n) w) v' w' → Holds s (n ∷ before) v' w'
+      → BothAssign (λ x. assigns graph x node) v (values_after (r.inserts n) w) v' w'
+      → Holds s (n ∷ before) v' w'
   -- an assignment with another right side traps where the old one does, and else keeps the relation
   pub replaces : (n s x : ℕ) (rhs other : Rhs) (before : List ℕ) (v w : Values)
       → Trace graph.nodes n before → slice_get graph.nodes n ≡ Some (Assign x rhs s)
       → r.changes n ≡ Replaced other → Holds n before v w → none_traps (r.inserts n) w ≡ true
       → (rhs_traps v rhs ≡ rhs_traps (values_after (r.inserts n) w) other)
-      × (rhs_traps v rhs ≡ false → Holds s (n ∷ before) (with_value x (rhs_value v rhs) v) (with_value x (rhs_value (values_after (r.inserts n) w) other) (values_after (r.inserts n) w)))
+      × (rhs_traps v rhs ≡ false
+      → Holds s (n ∷ before) (with_value x (rhs_value v rhs) v)
+      (with_value x (rhs_value (values_after (r.inserts n) w) other)
+      (values_after (r.inserts n) w)))
   -- an assignment that is removed does not trap, and the relation is kept without it
   pub removes : (n s x : ℕ) (rhs : Rhs) (before : List ℕ) (v w : Values)
       → Trace graph.nodes n before → slice_get graph.nodes n ≡ Some (Assign x rhs s)

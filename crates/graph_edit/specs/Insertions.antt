@@ -67,23 +67,27 @@ chain n k (put ∷ puts) = Assign put.var put.rhs (entry_among n (suc k) puts) �
 -- the new nodes before so many nodes from n on, numbered from k on
 abbrev pub chains : (ℕ → List Insertion) → ℕ → ℕ → ℕ → List Node
 chains inserts zero n k = []
-chains inserts (suc count) n k = chain n k (inserts n) ++ chains inserts count (suc n) (k + length (inserts n))
+chains inserts (suc count) n k =
+    chain n k (inserts n) ++ chains inserts count (suc n) (k + length (inserts n))
 
 -- ---- the whole
 
 -- the old nodes from number n on, changed, with edges that lead to the entries of their targets
 abbrev pub olds : (ℕ → Change) → (ℕ → ℕ) → ℕ → List Node → List Node
 olds changes to n [] = []
-olds changes to n (node ∷ nodes) = redirected to (changed (changes n) node) ∷ olds changes to (suc n) nodes
+olds changes to n (node ∷ nodes) =
+    redirected to (changed (changes n) node) ∷ olds changes to (suc n) nodes
 
 -- the old nodes, changed and with their edges led to the new ones, and then the new nodes
 abbrev pub rewritten_nodes : Rewriting → List Node → List Node
 rewritten_nodes r nodes =
-    olds r.changes (entry r.inserts (length nodes)) 0 nodes ++ chains r.inserts (length nodes) 0 (length nodes)
+    olds r.changes (entry r.inserts (length nodes)) 0 nodes
+    ++ chains r.inserts (length nodes) 0 (length nodes)
 
 -- the graph rewritten, with these variables after its own
 abbrev pub rewritten : Rewriting → List (List ℕ) → GraphShape → GraphShape
-rewritten r extra graph = record graph { vars = graph.vars ++ extra; nodes = rewritten_nodes r graph.nodes }
+rewritten r extra graph = record graph
+    { vars = graph.vars ++ extra; nodes = rewritten_nodes r graph.nodes }
 
 -- ---- when it can be made
 

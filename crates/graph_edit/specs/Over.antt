@@ -20,7 +20,8 @@ through k (put ∷ puts) path = k ∷ through (suc k) puts path
 -- the path, through the new nodes before each of its nodes
 abbrev pub over_path : (ℕ → List Insertion) → ℕ → List ℕ → List ℕ
 over_path inserts old [] = []
-over_path inserts old (n ∷ path) = through (old + put_below inserts n) (inserts n) (n ∷ over_path inserts old path)
+over_path inserts old (n ∷ path) =
+    through (old + put_below inserts n) (inserts n) (n ∷ over_path inserts old path)
 
 -- the weight of the assignment that a node makes, where it makes one
 abbrev pub weigh : (ℕ → Rhs → ℕ) → Option Node → ℕ
@@ -46,4 +47,5 @@ weight_at weight nodes n = weigh weight (slice_get nodes n)
 -- afterwards: the insertions before the node, and what becomes of the node
 abbrev pub new_weight_at : (ℕ → Rhs → ℕ) → Rewriting → List Node → ℕ → ℕ
 new_weight_at weight r nodes n =
-    weigh_all weight (r.inserts n) + weigh weight (option_map (changed (r.changes n)) (slice_get nodes n))
+    weigh_all weight (r.inserts n)
+    + weigh weight (option_map (changed (r.changes n)) (slice_get nodes n))

@@ -65,7 +65,7 @@ none_assigned graph node (x ∷ xs) free = let parts = or_parts (assigns graph x
 
 -- ---- lists
 
--- what stands in a joined list
+-- a number stands in two joined lists exactly where it stands in one of them
 pub is_in_append : (x : ℕ) (xs ys : List ℕ) → is_in x (xs ++ ys) ≡ (is_in x xs || is_in x ys)
 is_in_append x [] ys = refl
 is_in_append x (y ∷ xs) ys = ap (λ b. nat_eq y x || b) (is_in_append x xs ys) ∙ sym (or_assoc (nat_eq y x) (is_in x xs) (is_in x ys))

@@ -14,7 +14,7 @@ use Rattle.jump_clean.specs.Chains.{IsEnd, Skips}
 use Rattle.jump_clean.specs.Cleaned.{AreCleaned}
 use Rattle.jump_clean.specs.Reductions.{HaveNoJumps, NoEqualSuccessors, is_jump}
 
--- the nodes up to one more
+-- so no node up to this one is a jump
 pub no_jump_further : (nodes : List Node) (n : ℕ) (here : Node) → slice_get nodes n ≡ Some here → is_jump here ≡ false → ((k : ℕ) (node : Node) → k < n → slice_get nodes k ≡ Some node → is_jump node ≡ false) → (k : ℕ) (node : Node) → k < n + 1 → slice_get nodes k ≡ Some node → is_jump node ≡ false
 no_jump_further nodes n here is apart all k node lt e = elim (cases_lt k n) [
   | inl low ↦ all k node low e

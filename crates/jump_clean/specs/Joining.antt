@@ -67,7 +67,8 @@ AreChecked of checks nodes worklist nodes' worklist' = (raw : List Node)
 
 -- the `taken` of a Test with both successors in one class
 abbrev pub useless_of : List ℕ → Node → Option ℕ
-useless_of of (Test test taken other) = if nat_eq (class of taken) (class of other) then Some taken else None
+useless_of of (Test test taken other) =
+    if nat_eq (class of taken) (class of other) then Some taken else None
 useless_of of _ = None
 
 -- how many Tests there are

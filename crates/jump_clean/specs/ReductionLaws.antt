@@ -69,7 +69,8 @@ all_long nodes (n ∷ order) reduced reductions = reduced_long reductions.0 n re
 -- the node is as it was, or was a Test and is a Skip to its `taken`
 abbrev pub BecomesAt : Option Node → Option Node → Type 0
 BecomesAt before after = (before ≡ after)
-    ⊎ ((test : tests.Test) × (taken : ℕ) × (other : ℕ) × (before ≡ Some (Test test taken other)) × (after ≡ Some (Skip taken)))
+    ⊎ ((test : tests.Test) × (taken : ℕ) × (other : ℕ) × (before ≡ Some (Test test taken other))
+    × (after ≡ Some (Skip taken)))
 
 -- each node is as it was, or was a Test and is a Skip to its `taken`
 pub record Becomes (before after : List Node) : Type 0 where

@@ -53,7 +53,8 @@ of_assigned at_start other globals join of_var (Some (Assign x rhs next)) = of_v
 of_assigned at_start other globals join of_var (Some (Print a next)) = other
 of_assigned at_start other globals join of_var (Some (Guard test number next)) = other
 of_assigned at_start other globals join of_var (Some (Call None unit arguments next)) = globals
-of_assigned at_start other globals join of_var (Some (Call (Some x) unit arguments next)) = join globals (of_var x)
+of_assigned at_start other globals join of_var (Some (Call (Some x) unit arguments next)) =
+    join globals (of_var x)
 of_assigned at_start other globals join of_var (Some (Test test taken after)) = other
 of_assigned at_start other globals join of_var (Some (Return a)) = other
 
@@ -74,12 +75,14 @@ any_below holds (suc n) = any_below holds n || holds n
 
 -- the same of the variables that a node assigns, where so many are globals
 abbrev pub any_assigned : Bool → ℕ → (ℕ → Bool) → Option Node → Bool
-any_assigned at_start shared of_var node = of_assigned at_start false (any_below of_var shared) (λ a b. a || b) of_var node
+any_assigned at_start shared of_var node =
+    of_assigned at_start false (any_below of_var shared) (λ a b. a || b) of_var node
 
 -- the rows of the variables that a node assigns, joined, where so many are globals; at Start each of so many bits is
 -- `at_start`, and at other nodes none is set
 abbrev pub assigned_row : Bool → ℕ → List (List Bool) → ℕ → Option Node → List Bool
-assigned_row at_start shared by_var bits node = of_assigned (replicate bits at_start) (replicate bits false) (joined_rows by_var bits shared) or_bits (row_of by_var) node
+assigned_row at_start shared by_var bits node = of_assigned (replicate bits at_start)
+    (replicate bits false) (joined_rows by_var bits shared) or_bits (row_of by_var) node
 
 -- each row is that of its node
 abbrev pub AreAssignedRows : Bool → ℕ → List (List Bool) → ℕ → List Node → List (List Bool) → Type 0

@@ -61,7 +61,7 @@ module _ {K : Type 0} where
     pub put_keeps : IsWithKey old key new → (k : K) → Contains old k → Contains new k
     put_keeps put k there = let place = place_of old k there in contained_at new k place.0 (put_stays put place.0 k place.1)
 
-    -- the key is there
+    -- the key that was put is there
     pub put_there : IsWithKey old key new → Contains new key
     put_there (inl there) = subst (λ l. Contains l key) (sym there.1) there.0
     put_there (inr fresh) = subst (λ l. Contains l key) (sym fresh.1) (Contains-push old key)

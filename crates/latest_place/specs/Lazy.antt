@@ -22,7 +22,8 @@ IsDelayed graph e Down n = (before : List ℕ) → Trace graph.nodes n before
 -- n is delayed, and uses e or has a successor that is not delayed
 abbrev pub IsLatest : GraphShape → Expr → (ℕ → Type 0) → ℕ → Type 0
 IsLatest graph e Down n = IsDelayed graph e Down n
-    × ((uses graph e n ≡ true) ⊎ ((s : ℕ) × HasEdge graph.nodes n s × (IsDelayed graph e Down s → ⊥)))
+    × ((uses graph e n ≡ true)
+    ⊎ ((s : ℕ) × HasEdge graph.nodes n s × (IsDelayed graph e Down s → ⊥)))
 
 -- the path comes, through nodes that are not latest, to a node that uses e and is not latest
 abbrev pub ComesToUse : GraphShape → Expr → (ℕ → Type 0) → List ℕ → Type 0
@@ -57,7 +58,8 @@ AreLazy graph table Down p = ForEachExpr table (λ i e. IsLazy graph e (Down e) 
 
 -- the placement has a row for each node and a bit for each expression, and is the lazy one of each expression by the
 -- rule
-pub record IsLazyPlacement (Down : GraphShape → Expr → ℕ → Type 0) (graph : GraphShape) (table : List Expr)
+pub record IsLazyPlacement (Down : GraphShape → Expr → ℕ → Type 0) (graph : GraphShape)
+    (table : List Expr)
     (placement : Placement) : Type 0 where
   pub insert_rows : HaveShape graph (length table) placement.insert
   pub replace_rows : HaveShape graph (length table) placement.replace

@@ -71,7 +71,8 @@ AreNumbersBelow end numbers = (k i : ℕ) → slice_get numbers k ≡ Some i →
 pub record AreToPlace (graph : GraphShape) (table : List Expr) (numbers : List ℕ) : Type 0 where
   pub below : AreNumbersBelow (length table) numbers
   pub differ : AllDiffer numbers
-  pub others : ForEachExpr table (λ i e. (HasNumber i numbers → ⊥) → (u : ℕ) × IsUsedOnceFrom graph e 0 u)
+  pub others : ForEachExpr table
+      (λ i e. (HasNumber i numbers → ⊥) → (u : ℕ) × IsUsedOnceFrom graph e 0 u)
 
 -- the expressions of these numbers
 pub record IsPart (numbers : List ℕ) (table part : List Expr) : Type 0 where
@@ -100,10 +101,12 @@ pub record AddsBits (numbers : List ℕ) (part old new : List (List Bool)) : Typ
 
 -- the placement has a row for each node and a bit for each expression, and is the lazy one of the expressions of these
 -- numbers; of the others it has no bits
-pub record IsLazyAmong (Down : GraphShape → Expr → ℕ → Type 0) (graph : GraphShape) (table : List Expr)
+pub record IsLazyAmong (Down : GraphShape → Expr → ℕ → Type 0) (graph : GraphShape)
+    (table : List Expr)
     (numbers : List ℕ) (p : Placement) : Type 0 where
   pub insert_rows : HaveShape graph (length table) p.insert
   pub replace_rows : HaveShape graph (length table) p.replace
-  pub lazy : ForEachExpr table (λ i e. HasNumber i numbers → IsLazy graph e (Down graph e) (places_of p i))
+  pub lazy : ForEachExpr table
+      (λ i e. HasNumber i numbers → IsLazy graph e (Down graph e) (places_of p i))
   pub inserts_none : (n b : ℕ) → (HasNumber b numbers → ⊥) → has_bit p.insert b n ≡ false
   pub replaces_none : (n b : ℕ) → (HasNumber b numbers → ⊥) → has_bit p.replace b n ≡ false

@@ -38,22 +38,26 @@ pub record AreLikeUses (uses : Uses) (rows : List (List Bool)) : Type 0 where
 -- the rows say where each bit is delayed
 abbrev pub AreDelayedRows : GraphShape → List (List Bool) → List (List Bool) → List (List Bool)
     → Type 0
-AreDelayedRows graph early uses rows = Tell graph (width early) rows (λ b. IsDelayedBit graph.nodes (has_bit early b) (has_bit uses b))
+AreDelayedRows graph early uses rows =
+    Tell graph (width early) rows (λ b. IsDelayedBit graph.nodes (has_bit early b) (has_bit uses b))
 
 -- the rows say where each bit is latest
 abbrev pub AreLatestRows : GraphShape → List (List Bool) → List (List Bool) → List (List Bool)
     → Type 0
-AreLatestRows graph delayed uses rows = Tell graph (width delayed) rows (λ b. IsLatestBit graph.nodes (has_bit delayed b) (has_bit uses b))
+AreLatestRows graph delayed uses rows = Tell graph (width delayed) rows
+    (λ b. IsLatestBit graph.nodes (has_bit delayed b) (has_bit uses b))
 
 -- the rows say where each bit is needed
 abbrev pub AreNeededRows : GraphShape → List (List Bool) → List (List Bool) → List (List Bool)
     → Type 0
-AreNeededRows graph latest uses rows = Tell graph (width latest) rows (λ b. IsNeededBit graph.nodes (has_bit latest b) (has_bit uses b))
+AreNeededRows graph latest uses rows = Tell graph (width latest) rows
+    (λ b. IsNeededBit graph.nodes (has_bit latest b) (has_bit uses b))
 
 -- the rows say where each bit is isolated, which is where it is not needed
 abbrev pub AreIsolatedRows : GraphShape → List (List Bool) → List (List Bool) → List (List Bool)
     → Type 0
-AreIsolatedRows graph latest uses rows = Tell graph (width latest) rows (λ b n. IsNeededBit graph.nodes (has_bit latest b) (has_bit uses b) n → ⊥)
+AreIsolatedRows graph latest uses rows = Tell graph (width latest) rows
+    (λ b n. IsNeededBit graph.nodes (has_bit latest b) (has_bit uses b) n → ⊥)
 
 -- the rows have the latest bits that are not isolated
 abbrev pub AreInsertedRows : List (List Bool) → List (List Bool) → List (List Bool) → Type 0

@@ -72,4 +72,5 @@ IsHeldLeast graph e Down p = (other : Places) → IsOptimal graph e Down other �
 
 -- so it is of each expression of the table
 abbrev pub AreHeldLeast : GraphShape → List Expr → (Expr → ℕ → Type 0) → Placement → Type 0
-AreHeldLeast graph table Down p = ForEachExpr table (λ i e. IsHeldLeast graph e (Down e) (places_of p i))
+AreHeldLeast graph table Down p =
+    ForEachExpr table (λ i e. IsHeldLeast graph e (Down e) (places_of p i))

@@ -24,7 +24,8 @@ pub record IsWanted (nodes : List Node) (p : Places) (n : ℕ) : Type 0 where
 
 -- of so many expressions, the rows tell at which nodes each is wanted
 abbrev pub AreWantedRows : GraphShape → ℕ → Placement → List (List Bool) → Type 0
-AreWantedRows graph bits p rows = Tell graph bits rows (λ b n. IsWanted graph.nodes (places_of p b) n)
+AreWantedRows graph bits p rows =
+    Tell graph bits rows (λ b n. IsWanted graph.nodes (places_of p b) n)
 
 -- one row for each node, whose one bit says whether the node is a Return
 pub record AreReturnRows (nodes : List Node) (rows : List (List Bool)) : Type 0 where

@@ -8,7 +8,7 @@ use Rattle.mir_base.specs.declared.words.Word.{Word}
 use Rattle.mir_base.specs.Names.{is_reserved}
 use Rattle.mir_base.specs.Words.{is_text, first_word, reserved_word, word_text, words}
 
--- the word among these that the bytes are
+-- the word of the table that these bytes spell
 abbrev pub word_of : List ℕ → List Word → Option Word
 word_of bytes table = first_word word_text (λ word. word) bytes table
 

@@ -47,7 +47,12 @@ pub record Answer : Type 0 where
 
 -- a frame at its start: place 0, the globals as they were handed over, and all other variables 0
 abbrev pub first_frame : CallEntry → Frame
-first_frame entry = record { place = 0; arguments = entry.arguments; values = with_first entry.globals all_zero }
+first_frame
+    entry = record {
+      place = 0;
+      arguments = entry.arguments;
+      values = with_first entry.globals all_zero;
+    }
 
 -- the variable, where there is one, gets the value
 abbrev pub with_result : Option ℕ → ℤ → Values → Values

@@ -10,7 +10,8 @@ abbrev pub Alike : (Frame → Frame → Type 0) → Transition → Transition �
 Alike S (Continues n f) (Continues m g) = (m ≤ n) × S f g
 Alike S (Prints v f) (Prints w g) = (v ≡ w) × S f g
 Alike S (Calls unit entry into f) (Calls unit' entry' into' g) = (unit ≡ unit') × (entry ≡ entry')
-    × ((answer : Answer) → IsCallAnswer (length entry.globals) answer → S (resumed into answer f) (resumed into' answer g))
+    × ((answer : Answer) → IsCallAnswer (length entry.globals) answer
+    → S (resumed into answer f) (resumed into' answer g))
 Alike S (Returns answer) (Returns answer') = answer ≡ answer'
 Alike S (Traps kind n) (Traps kind' m) = kind ≡ kind'
 Alike S _ _ = ⊥

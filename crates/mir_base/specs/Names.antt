@@ -33,7 +33,8 @@ begins_as_name (byte ∷ bytes) = is_letter byte
 -- the bytes are spelled as a name
 abbrev pub is_name : List ℕ → Bool
 is_name bytes =
-    begins_as_name bytes && list_all is_name_byte bytes && nat_le (length bytes) most_name_bytes && not
+    begins_as_name bytes && list_all is_name_byte bytes && nat_le (length bytes) most_name_bytes
+    && not
     (is_reserved bytes)
 
 -- the same, as a fact
@@ -47,4 +48,5 @@ numbered_name front number = front ++ decimal number
 -- a name can begin with the bytes, and has room for the 20 digits that a number of 64 bits has at most
 abbrev pub CanBeNumbered : List ℕ → Type 0
 CanBeNumbered front =
-    IsTrue (begins_as_name front && list_all is_name_byte front && nat_le (length front + 20) most_name_bytes)
+    IsTrue (begins_as_name front && list_all is_name_byte front
+    && nat_le (length front + 20) most_name_bytes)

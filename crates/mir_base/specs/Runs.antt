@@ -44,14 +44,20 @@ first_entry shared inputs = record { arguments = inputs; globals = replicate sha
 -- a frame of the first unit, with so many globals, and nothing printed or counted
 abbrev pub first_state : ℕ → List ℤ → State
 first_state shared inputs =
-    record { printed = []; control = Running 0 (first_frame (first_entry shared inputs)) []; counted = 0; depth = 1 }
+    record {
+      printed = [];
+      control = Running 0 (first_frame (first_entry shared inputs)) [];
+      counted = 0;
+      depth = 1;
+    }
 
 -- ---- steps
 
 -- the answer goes to the latest caller; where there is none, it is the result of the run
 abbrev pub returned : Answer → List Caller → Control
 returned answer [] = Ended answer.value
-returned answer (caller ∷ callers) = Running caller.unit (resumed caller.into answer caller.frame) callers
+returned answer (caller ∷ callers) =
+    Running caller.unit (resumed caller.into answer caller.frame) callers
 
 -- the state after a transition of the running frame
 abbrev pub state_after : ℕ → List Caller → Transition → State → State
@@ -61,7 +67,8 @@ state_after unit callers (Prints v next) state =
     record state { control = Running unit next callers; printed = state.printed ++ v ∷ [] }
 state_after unit callers (Calls called entry into next) state =
     record state {
-      control = Running called (first_frame entry) (record { unit = unit; into = into; frame = next } ∷ callers);
+      control = Running called (first_frame entry)
+          (record { unit = unit; into = into; frame = next } ∷ callers);
       depth = max state.depth (suc (suc (length callers)));
     }
 state_after unit callers (Returns answer) state = record state { control = returned answer callers }

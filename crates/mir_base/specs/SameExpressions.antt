@@ -59,7 +59,8 @@ abbrev pub same_expr : Expr → Expr → Bool
 same_expr (Un op a) (Un op' a') = nat_eq (un_op_number op) (un_op_number op') && same_operand a a'
 same_expr (Un op a) (Bin op' a' b') = false
 same_expr (Bin op a b) (Un op' a') = false
-same_expr (Bin op a b) (Bin op' a' b') = nat_eq (op_number op) (op_number op') && same_operand a a' && same_operand b b'
+same_expr (Bin op a b) (Bin op' a' b') =
+    nat_eq (op_number op) (op_number op') && same_operand a a' && same_operand b b'
 
 -- the right side, where there is one, is this expression
 abbrev pub is_expr : Expr → Option Rhs → Bool
@@ -72,7 +73,8 @@ is_expr e (Some (Binary op a b)) = same_expr e (Bin op a b)
 
 -- all operators, by their numbers
 abbrev ops : List Op
-ops = Add ∷ Sub ∷ Mul ∷ Div ∷ Mod ∷ Min ∷ Max ∷ Eq ∷ Ne ∷ Lt ∷ Le ∷ Gt ∷ Ge ∷ Shl ∷ Shr ∷ Shra ∷ And ∷ Or ∷ Xor ∷ []
+ops = Add ∷ Sub ∷ Mul ∷ Div ∷ Mod ∷ Min ∷ Max ∷ Eq ∷ Ne ∷ Lt ∷ Le ∷ Gt ∷ Ge ∷ Shl ∷ Shr ∷ Shra ∷ And
+    ∷ Or ∷ Xor ∷ []
 
 -- the table of operators, read at an operator's number, gives it back
 op_back : (op : Op) → slice_index_or ops (op_number op) Add ≡ op

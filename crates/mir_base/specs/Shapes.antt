@@ -66,7 +66,8 @@ AllBelow m (x ∷ xs) = (x < m) × AllBelow m xs
 abbrev pub numbered_from : ℕ → List ℕ → Option ℕ
 numbered_from n [] = Some n
 numbered_from n (x ∷ xs) =
-    if nat_lt x n then numbered_from n xs else (if nat_eq x n then numbered_from (suc n) xs else None)
+    if nat_lt x n then numbered_from n xs
+    else (if nat_eq x n then numbered_from (suc n) xs else None)
 
 -- no item stands at two places
 abbrev pub AllDiffer : {A : Type 0} → List A → Type 0

@@ -82,7 +82,8 @@ pub record AfterTrapping (second : Code) (g : Frame) (kind : Trap) : Type 0 wher
 abbrev pub Responds : Type 0 → Relation → Code → ℕ → ℕ → ℕ → Frame → Transition → Type 0
 Responds P R second z x y g (Continues n next) = AfterContinuing R second z x y g n next
 Responds P R second z x y g (Prints value next) = AfterPrinting R second x y g value next
-Responds P R second z x y g (Calls unit entry into next) = AfterCalling R second x y g unit entry into next
+Responds P R second z x y g (Calls unit entry into next) =
+    AfterCalling R second x y g unit entry into next
 Responds P R second z x y g (Returns answer) = AfterReturning P second x y g answer
 Responds P R second z x y g (Traps kind n) = AfterTrapping second g kind
 

@@ -69,7 +69,8 @@ operand_text naming (Const z) = signed_decimal z
 abbrev pub rhs_text : Naming → Rhs → List ℕ
 rhs_text naming (Plain a) = operand_text naming a
 rhs_text naming (Unary op a) = un_op_text op ++ codes " " ++ operand_text naming a
-rhs_text naming (Binary op a b) = operand_text naming a ++ codes " " ++ op_text op ++ codes " " ++ operand_text naming b
+rhs_text naming (Binary op a b) =
+    operand_text naming a ++ codes " " ++ op_text op ++ codes " " ++ operand_text naming b
 
 -- `a < b`, `a` or `! a`
 abbrev pub test_text : Naming → Test → List ℕ
@@ -81,21 +82,26 @@ test_text naming (Fails a) = codes "! " ++ operand_text naming a
 -- `(a,int;b,int)`; 59 is the semicolon
 abbrev pub args_text : Naming → List Operand → List ℕ
 args_text naming operands =
-    codes "(" ++ join_with_byte 59 (map (λ a. operand_text naming a ++ codes ",int") operands) ++ codes ")"
+    codes "(" ++ join_with_byte 59 (map (λ a. operand_text naming a ++ codes ",int") operands)
+    ++ codes ")"
 
 -- `call f,(a,int)` or `x <- f,(a,int)`
 abbrev pub call_text : Naming → Option ℕ → ℕ → List Operand → List ℕ
-call_text naming None unit operands = codes "call " ++ called_text naming unit ++ codes "," ++ args_text naming operands
+call_text naming None unit operands =
+    codes "call " ++ called_text naming unit ++ codes "," ++ args_text naming operands
 call_text naming (Some x) unit operands =
-    var_text naming x ++ codes " <- " ++ called_text naming unit ++ codes "," ++ args_text naming operands
+    var_text naming x ++ codes " <- " ++ called_text naming unit ++ codes ","
+    ++ args_text naming operands
 
 -- the line of an instruction, without its label
 abbrev pub inst_text : Naming → Inst → List ℕ
 inst_text naming (Receive x) = codes "receive " ++ var_text naming x ++ codes "(val)"
 inst_text naming (Assign x rhs) = var_text naming x ++ codes " <- " ++ rhs_text naming rhs
 inst_text naming (Goto place) = codes "goto " ++ label naming.body place
-inst_text naming (If test place) = codes "if " ++ test_text naming test ++ codes " goto " ++ label naming.body place
-inst_text naming (TrapIf test number) = codes "if " ++ test_text naming test ++ codes " trap " ++ decimal number
+inst_text naming (If test place) =
+    codes "if " ++ test_text naming test ++ codes " goto " ++ label naming.body place
+inst_text naming (TrapIf test number) =
+    codes "if " ++ test_text naming test ++ codes " trap " ++ decimal number
 inst_text naming (Call into unit operands) = call_text naming into unit operands
 inst_text naming (Print a) = codes "print " ++ operand_text naming a
 inst_text naming (Return a) = codes "return " ++ operand_text naming a
@@ -106,7 +112,8 @@ inst_text naming (Return a) = codes "return " ++ operand_text naming a
 abbrev pub lines_text : Naming → ℕ → List Inst → List ℕ
 lines_text naming place [] = []
 lines_text naming place (inst ∷ insts) =
-    label_before naming.body place ++ inst_text naming inst ++ codes "\n" ++ lines_text naming (suc place) insts
+    label_before naming.body place ++ inst_text naming inst ++ codes "\n"
+    ++ lines_text naming (suc place) insts
 
 -- a unit, among units of these names
 abbrev pub unit_text : List (List ℕ) → UnitShape → List ℕ
@@ -122,4 +129,5 @@ global_text name = codes "global " ++ name ++ codes "\n"
 -- a line for each global, and the units, one after the other
 abbrev pub canonical_text : ProgramShape → List ℕ
 canonical_text program =
-    flat_map global_text program.globals ++ flat_map (unit_text (map (λ unit. unit.name) program.units)) program.units
+    flat_map global_text program.globals
+    ++ flat_map (unit_text (map (λ unit. unit.name) program.units)) program.units

@@ -71,7 +71,8 @@ pub record Machine : Type 0 where
 
 -- the machine of a body, where the first so many variables are shared
 abbrev pub body_machine : ℕ → List Inst → Machine
-body_machine shared body = record { receives = receives_in body; shared = shared; code = body_code shared body }
+body_machine shared
+    body = record { receives = receives_in body; shared = shared; code = body_code shared body }
 
 -- the machine of a unit's body
 abbrev pub unit_machine : UnitShape → Machine

@@ -35,13 +35,15 @@ assigned x v place frame = record frame { place = place; values = with_value x v
 
 -- an assignment, which goes on at `place`
 abbrev pub assign_transition : ℕ → Rhs → ℕ → Frame → Transition
-assign_transition x (Plain a) place frame = Continues 0 (assigned x (operand_value frame.values a) place frame)
+assign_transition x (Plain a) place frame =
+    Continues 0 (assigned x (operand_value frame.values a) place frame)
 assign_transition x (Unary op a) place frame =
     Continues 1 (assigned x (value_of_un_op op (operand_value frame.values a)) place frame)
 assign_transition x (Binary op a b) place frame =
     if traps op (operand_value frame.values b) then Traps ZeroDivisor 1
     else Continues 1
-    (assigned x (value_of_op op (operand_value frame.values a) (operand_value frame.values b)) place frame)
+    (assigned x (value_of_op op (operand_value frame.values a) (operand_value frame.values b)) place
+    frame)
 
 -- a trap instruction, which goes on at `place` where its test does not hold
 abbrev pub guard_transition : Test → ℕ → ℕ → Frame → Transition
@@ -50,25 +52,32 @@ guard_transition test number place frame =
 
 -- what is handed back with this value, where the first so many variables are shared
 abbrev pub answered : ℕ → ℤ → Frame → Transition
-answered shared v frame = Returns (record { value = v; globals = shared_values shared frame.values })
+answered shared v frame =
+    Returns (record { value = v; globals = shared_values shared frame.values })
 
 -- one instruction, or the end where there is none, of a unit whose first so many variables are shared. Receives stand
 -- first, so receive number i is at place i
 abbrev pub inst_transition : ℕ → Option Inst → Frame → Transition
 inst_transition shared None frame = answered shared (pos 0) frame
 inst_transition shared (Some (Receive x)) frame =
-    Continues 0 (assigned x (slice_index_or frame.arguments frame.place (pos 0)) (frame.place + 1) frame)
+    Continues 0
+    (assigned x (slice_index_or frame.arguments frame.place (pos 0)) (frame.place + 1) frame)
 inst_transition shared (Some (Assign x rhs)) frame = assign_transition x rhs (frame.place + 1) frame
 inst_transition shared (Some (Goto place)) frame = Continues 0 (at place frame)
 inst_transition shared (Some (If test place)) frame =
     Continues 0 (at (if test_holds frame.values test then place else frame.place + 1) frame)
-inst_transition shared (Some (TrapIf test number)) frame = guard_transition test number (frame.place + 1) frame
+inst_transition shared (Some (TrapIf test number)) frame =
+    guard_transition test number (frame.place + 1) frame
 inst_transition shared (Some (Call into unit operands)) frame =
-    Calls unit (record
-    { arguments = map (operand_value frame.values) operands; globals = shared_values shared frame.values }) into
+    Calls unit (record {
+      arguments = map (operand_value frame.values) operands;
+      globals = shared_values shared frame.values;
+    }) into
     (at (frame.place + 1) frame)
-inst_transition shared (Some (Print a)) frame = Prints (operand_value frame.values a) (at (frame.place + 1) frame)
-inst_transition shared (Some (Return a)) frame = answered shared (operand_value frame.values a) frame
+inst_transition shared (Some (Print a)) frame =
+    Prints (operand_value frame.values a) (at (frame.place + 1) frame)
+inst_transition shared (Some (Return a)) frame =
+    answered shared (operand_value frame.values a) frame
 
 -- what a body does at a frame, where the first so many variables are shared
 abbrev pub body_code : ℕ → List Inst → Code

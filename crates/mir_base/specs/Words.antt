@@ -34,7 +34,8 @@ word_text Sequence = codes "sequence"
 -- the reserved words
 abbrev pub words : List Word
 words =
-    Begin ∷ End ∷ Receive ∷ Goto ∷ If ∷ Call ∷ Return ∷ Print ∷ Mod ∷ Min ∷ Max ∷ Shl ∷ Shr ∷ Shra ∷ And ∷ Or ∷ Xor ∷
+    Begin ∷ End ∷ Receive ∷ Goto ∷ If ∷ Call ∷ Return ∷ Print ∷ Mod ∷ Min ∷ Max ∷ Shl ∷ Shr ∷ Shra
+    ∷ And ∷ Or ∷ Xor ∷
     Trap ∷ Global ∷ Sequence
     ∷ []
 

@@ -12,7 +12,8 @@ use Rattle.mir_call.specs.Spelled.{words_in}
 
 -- the stream of a sink that keeps its bytes in memory
 abbrev pub kept_by : GrowSink → GrowSink → Stream
-kept_by old new = stream_of (λ (sink : GrowSink). Some sink.bytes.items) (λ (sink : GrowSink). sink.faults) old new
+kept_by old new = stream_of (λ (sink : GrowSink). Some sink.bytes.items)
+    (λ (sink : GrowSink). sink.faults) old new
 
 -- a call of `top` with these words, whose source has this text and never fails, ended with this status: all promises
 -- of `top` hold of it
@@ -57,7 +58,8 @@ pub record HasTabled
 -- spell none; or there was no memory for the words
 abbrev pub IsTableAnswer : List ℕ → List ℕ → Stream → Stream → ℕ → Type 0
 IsTableAnswer bytes text out err status =
-    HasTabled (unwrap_or (words_in bytes) ([] ∷ [])) text out err status ⊎ HasNoMemory out err status
+    HasTabled (unwrap_or (words_in bytes) ([] ∷ [])) text out err status
+    ⊎ HasNoMemory out err status
 
 -- ---- what stands in the rooms
 
@@ -72,7 +74,8 @@ kept bytes faults = record { old = Some []; new = Some bytes; before = 0; after 
 -- a call of which this holds left this answer: the output and the line of complaint stand in the rooms as far as they
 -- fit, with their full lengths
 pub record HasAnswered
-    (IsDone : Stream → Stream → ℕ → Type 0) (out_old out_new line_old line_new : List ℕ) (answer : CallAnswer)
+    (IsDone : Stream → Stream → ℕ → Type 0) (out_old out_new line_old line_new : List ℕ)
+    (answer : CallAnswer)
     : Type 0 where
   pub output : List ℕ
   pub line : List ℕ

@@ -16,7 +16,8 @@ with_word word later = if is_utf8 word then option_map (λ words. word ∷ words
 abbrev pub words_after : List ℕ → List ℕ → Option (List (List ℕ))
 words_after word [] = at_end word
 words_after word (byte ∷ bytes) =
-    if byte == 0 then with_word word (words_after [] bytes) else words_after (word ++ byte ∷ []) bytes
+    if byte == 0 then with_word word (words_after [] bytes)
+    else words_after (word ++ byte ∷ []) bytes
 
 -- the words that bytes spell, each ended by a zero byte
 abbrev pub words_in : List ℕ → Option (List (List ℕ))

@@ -18,7 +18,7 @@ pub value_kept : (xs ys : List ℤ) (a : Operand) → AllBelow (length xs) (oper
 value_kept xs ys (Var x) below = get_or_append_left xs ys (pos 0) x below.0
 value_kept xs ys (Const c) below = refl
 
--- an operand that is read while values are pushed behind the variables
+-- an operand that is read while values are pushed behind the variables has the value that it had before
 pub operand_read : (values more read : List ℤ) (from : ℕ) (a : Operand) → from ≤ length values → read ≡ values ++ more → AllBelow (length (drop from values)) (operand_vars a) → operand_value (values_of (take (length read - from) (drop from read))) a ≡ operand_value (values_of (drop from values)) a
 operand_read values more read from a within is below =
     let all : take (length read - from) (drop from read) ≡ drop from read = take_all _ _ (omega (arith, length-drop from read)) in

@@ -17,7 +17,12 @@ finish_of (Stopped kind) = Trapped kind
 
 -- the report of a state
 abbrev pub report_of : State → Report
-report_of state = record { lines = state.printed; finish = finish_of state.control; evals = state.counted }
+report_of
+    state = record {
+      lines = state.printed;
+      finish = finish_of state.control;
+      evals = state.counted;
+    }
 
 -- what may be answered for so many steps: the number of inputs is judged first, and running out of memory is free
 abbrev pub IsRunAnswer : ProgramShape → List ℤ → ℕ → Result Report RunFault → Type 0

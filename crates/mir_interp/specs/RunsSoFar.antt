@@ -42,11 +42,13 @@ frame_of values frame =
 abbrev pub callers_of : List ℤ → List Caller → List CallerState
 callers_of values [] = []
 callers_of values (caller ∷ callers) =
-    record { unit = caller.frame.unit; into = caller.into; frame = frame_of values caller.frame } ∷ callers_of (take caller.frame.arguments values) callers
+    record { unit = caller.frame.unit; into = caller.into; frame = frame_of values caller.frame }
+    ∷ callers_of (take caller.frame.arguments values) callers
 
 -- the frames that wait on a stack, the latest first
 abbrev pub waiting : Stack → List CallerState
-waiting stack = callers_of (take stack.running.arguments stack.values.items) (reverse stack.callers.items)
+waiting stack =
+    callers_of (take stack.running.arguments stack.values.items) (reverse stack.callers.items)
 
 -- the running frame
 abbrev pub running : Stack → FrameState
@@ -66,7 +68,11 @@ answer_of stack v = record { value = v; globals = globals_of stack }
 
 -- what a call of the running frame with these operands hands over
 abbrev pub entry_of : Stack → List Operand → CallEntry
-entry_of stack operands = record { arguments = map (operand_value (running stack).values) operands; globals = globals_of stack }
+entry_of stack
+    operands = record {
+      arguments = map (operand_value (running stack).values) operands;
+      globals = globals_of stack;
+    }
 
 -- the running frame as it waits for its call
 abbrev pub caller_of : Stack → Option ℕ → CallerState
@@ -85,15 +91,22 @@ control_of stack (Trapped kind) = Stopped kind
 -- the state of the run
 abbrev pub state_of : RunSoFar → Finish → State
 state_of so_far finish =
-    record { printed = so_far.printed.items; control = control_of so_far.stack finish; counted = so_far.counted; depth = so_far.depth }
+    record {
+      printed = so_far.printed.items;
+      control = control_of so_far.stack finish;
+      counted = so_far.counted;
+      depth = so_far.depth;
+    }
 
 -- the state after a transition of the running frame
 abbrev pub state_by : RunSoFar → Transition → State
-state_by so_far transition = state_after so_far.stack.running.unit (waiting so_far.stack) transition (state_of so_far GoesOn)
+state_by so_far transition =
+    state_after so_far.stack.running.unit (waiting so_far.stack) transition (state_of so_far GoesOn)
 
 -- the state after an instruction of the running frame
 abbrev pub state_past : RunSoFar → Option Inst → State
-state_past so_far inst = state_by so_far (inst_transition so_far.stack.shared inst (running so_far.stack))
+state_past so_far inst =
+    state_by so_far (inst_transition so_far.stack.shared inst (running so_far.stack))
 
 -- the state after one step of the program
 abbrev pub state_stepped : ProgramShape → RunSoFar → State
@@ -103,7 +116,8 @@ state_stepped program so_far = step (codes_of program) (state_of so_far GoesOn)
 abbrev pub value_of_rhs : Values → Rhs → Result ℤ Trap
 value_of_rhs values (Plain a) = Ok (operand_value values a)
 value_of_rhs values (Unary op a) = Ok (value_of_un_op op (operand_value values a))
-value_of_rhs values (Binary op a b) = evaluation op (operand_value values a) (operand_value values b)
+value_of_rhs values (Binary op a b) =
+    evaluation op (operand_value values a) (operand_value values b)
 
 -- ---- what is true of every run so far
 
@@ -122,7 +136,8 @@ running_vars program stack = length (vars_at program.units stack.running.unit)
 
 -- the instruction at which the running frame stands, where it is not at its end
 abbrev pub running_inst : ProgramShape → Stack → Option Inst
-running_inst program stack = slice_get (body_at program.units stack.running.unit) stack.running.place
+running_inst program stack =
+    slice_get (body_at program.units stack.running.unit) stack.running.place
 
 -- the frame is of a unit of the program, whose variables begin with the globals, and has a value for each of its
 -- receives and of its variables
@@ -136,14 +151,16 @@ pub record IsFrame (program : ProgramShape) (values : List ℤ) (frame : Frame) 
 abbrev pub AreCallers : ProgramShape → List ℤ → List Caller → Type 0
 AreCallers program values [] = Unit {0}
 AreCallers program values (caller ∷ callers) =
-    IsFrame program values caller.frame × AllBelow (length (vars_at program.units caller.frame.unit)) (into_vars caller.into)
+    IsFrame program values caller.frame
+    × AllBelow (length (vars_at program.units caller.frame.unit)) (into_vars caller.into)
     × AreCallers program (take caller.frame.arguments values) callers
 
 -- the stack is of a run of the program
 pub record IsStack (program : ProgramShape) (stack : Stack) : Type 0 where
   pub globals : stack.shared ≡ length program.globals
   pub running : IsFrame program stack.values.items stack.running
-  pub callers : AreCallers program (take stack.running.arguments stack.values.items) (reverse stack.callers.items)
+  pub callers : AreCallers program (take stack.running.arguments stack.values.items)
+      (reverse stack.callers.items)
 
 -- after it the stack is of a run of each program that it was of before
 abbrev pub StaysStack : Stack → Stack → Type 0

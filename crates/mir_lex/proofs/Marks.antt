@@ -234,7 +234,7 @@ numeral_first previous byte bytes (inr h) = inr (first h.0 h.1)
 pub numeral_no_letter : (previous : Previous) (byte : ℕ) (bytes : List ℕ) → IsNumeral previous (byte ∷ bytes) → is_letter byte ≡ false
 numeral_no_letter previous byte bytes h = elim (numeral_first previous byte bytes h) [ inl digit ↦ digit_no_letter byte digit | inr minus ↦ ap is_letter minus ]
 
--- a byte that is or_from a letter, a digit nor a minus, and begins no mark, begins no token
+-- a byte that is neither a letter nor a digit nor a minus, and begins no mark, begins no token
 pub spelled_first : (previous : Previous) (byte : ℕ) (bytes : List ℕ) → is_letter byte ≡ false → is_ascii_digit byte ≡ false → (byte == 45) ≡ false → ((mark : Mark) → IsMark mark (byte ∷ bytes) → ⊥) → IsSpelled previous (byte ∷ bytes) → ⊥
 spelled_first previous byte bytes letter digit minus mark (inl word) = absurd (let is = word.0 in cc)
 spelled_first previous byte bytes letter digit minus mark (inr (inl numeral)) = elim (numeral_first previous byte bytes numeral) [

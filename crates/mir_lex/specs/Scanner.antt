@@ -27,7 +27,8 @@ use Rattle.mir_lex.specs.Spelling.{with_token, is_blank, previous_of}
 -- an optional minus and decimal digits, of a signed number of 64 bits
 abbrev pub is_number : List ℕ → Bool
 is_number bytes =
-    not (slice_index bytes 0 == 43) && nat_lt 0 (length (without_leading_sign bytes)) && all_ascii_digits (without_leading_sign bytes)
+    not (slice_index bytes 0 == 43) && nat_lt 0 (length (without_leading_sign bytes))
+    && all_ascii_digits (without_leading_sign bytes)
     && nat_lt (mag (signed_digits_value 10 bytes)) (2 ^ 63)
 
 -- the number that these bytes spell, if they spell one
@@ -67,7 +68,7 @@ IsShort text = length text < 2 ^ 60
 abbrev pub HasRoom : ℕ → Scan → Type 0
 HasRoom count state = state.start + state.length + count < 2 ^ 62
 
--- the line and the next one fit 64 bits
+-- the line's number is below 2^62, so that it and the next fit 64 bits
 abbrev pub HasLine : Scan → Type 0
 HasLine state = state.line < 2 ^ 62
 
@@ -114,7 +115,8 @@ push_word state found = push_found state found (LongName state.line)
 
 -- the bytes since the start are this number, or no number
 abbrev pub push_number : Scan → Option ℤ → Scanned
-push_number state found = push_found state (option_map (λ value. NumberKind value) found) (BadNumber state.line)
+push_number state found =
+    push_found state (option_map (λ value. NumberKind value) found) (BadNumber state.line)
 
 -- the bytes since the start
 abbrev pub pending_bytes : List ℕ → Scan → List ℕ
@@ -201,19 +203,23 @@ complete state mark = Going (push (extend state Idle) (MarkKind mark))
 
 -- `=` makes the mark longer
 abbrev pub step_equal : List ℕ → Scan → ℕ → Mark → Scanned
-step_equal text state byte mark = if byte == 61 then complete state mark else restart text state byte
+step_equal text state byte mark =
+    if byte == 61 then complete state mark else restart text state byte
 
 -- only this byte can follow
 abbrev pub step_only : Scan → ℕ → ℕ → Pending → Scanned
-step_only state byte wanted pending = if byte == wanted then Going (extend state pending) else Stopped (BadByte state.line)
+step_only state byte wanted pending =
+    if byte == wanted then Going (extend state pending) else Stopped (BadByte state.line)
 
 -- a byte behind a number that is no digit
 abbrev pub leave_number : List ℕ → Scan → ℕ → Scanned
-leave_number text state byte = if is_name_byte byte then Stopped (BadNumber state.line) else restart text state byte
+leave_number text state byte =
+    if is_name_byte byte then Stopped (BadNumber state.line) else restart text state byte
 
 -- a byte behind a `-` that may begin a number
 abbrev pub leave_minus : List ℕ → Scan → ℕ → Scanned
-leave_minus text state byte = if is_ascii_digit byte then Going (extend state PNumber) else restart text state byte
+leave_minus text state byte =
+    if is_ascii_digit byte then Going (extend state PNumber) else restart text state byte
 
 -- one more byte that does not stay in what is pending, where this is pending
 abbrev pub leave_as : List ℕ → Scan → ℕ → Pending → Scanned
@@ -221,19 +227,21 @@ leave_as text state byte Idle = begin (skip state) byte
 leave_as text state byte PWord = restart text state byte
 leave_as text state byte PNumber = leave_number text state byte
 leave_as text state byte PMinus = leave_minus text state byte
-leave_as text state byte PLess = if byte == 45 then complete state Arrow else step_equal text state byte LessEqual
+leave_as text state byte PLess =
+    if byte == 45 then complete state Arrow else step_equal text state byte LessEqual
 leave_as text state byte PGreater = step_equal text state byte GreaterEqual
 leave_as text state byte PBang = step_equal text state byte NotEqual
 leave_as text state byte Bar = step_only state byte 124 Comment
 leave_as text state byte Comment = restart text state byte
 leave_as text state byte ArrowFirst = step_only state byte 134 ArrowSecond
-leave_as text state byte ArrowSecond = if byte == 144 then complete state Arrow else Stopped (BadByte state.line)
+leave_as text state byte ArrowSecond =
+    if byte == 144 then complete state Arrow else Stopped (BadByte state.line)
 
 -- one more byte that does not stay in what is pending
 abbrev pub leave : List ℕ → Scan → ℕ → Scanned
 leave text state byte = leave_as text state byte state.pending
 
--- whether the byte belongs to what is pending, of which no other byte of the text has to be known
+-- whether a word, a number or a comment is pending that goes on with this byte
 abbrev pub stays : Pending → ℕ → Bool
 stays PWord byte = is_name_byte byte
 stays PNumber byte = is_ascii_digit byte
@@ -242,7 +250,8 @@ stays pending byte = false
 
 -- one more byte, where this is pending
 abbrev pub step_as : List ℕ → Scan → ℕ → Pending → Scanned
-step_as text state byte pending = if stays pending byte then Going (extend state pending) else leave_as text state byte pending
+step_as text state byte pending =
+    if stays pending byte then Going (extend state pending) else leave_as text state byte pending
 
 -- one more byte
 abbrev pub byte_step : List ℕ → Scan → ℕ → Scanned
@@ -257,7 +266,14 @@ scan_step text (Stopped bad) byte = Stopped bad
 
 -- the scan of no byte
 abbrev pub start : Scan
-start = record { items = []; previous = AfterLineEnd; line = 1; start = 0; length = 0; pending = Idle }
+start = record {
+  items = [];
+  previous = AfterLineEnd;
+  line = 1;
+  start = 0;
+  length = 0;
+  pending = Idle;
+}
 
 -- the scan of the bytes of a prefix of the text
 abbrev pub scan : List ℕ → List ℕ → Scanned

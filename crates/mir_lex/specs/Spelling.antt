@@ -62,7 +62,8 @@ CanBeSigned previous = Unit {0}
 -- a number, of any size
 abbrev pub IsNumeral : Previous → List ℕ → Type 0
 IsNumeral previous bytes =
-    IsDigits bytes ⊎ ((digits : List ℕ) × (bytes ≡ 45 ∷ digits) × IsDigits digits × CanBeSigned previous)
+    IsDigits bytes
+    ⊎ ((digits : List ℕ) × (bytes ≡ 45 ∷ digits) × IsDigits digits × CanBeSigned previous)
 
 -- the number is one of 64 bits with a sign
 abbrev pub IsInRange : List ℕ → Type 0
@@ -135,13 +136,16 @@ EndsLine (byte ∷ bytes) = byte ≡ 10
 -- last of them as said
 pub data Spelled : List ℕ → List ℕ → List Token → Previous → Type 0 where
   start : {text : List ℕ} → Spelled text [] [] AfterLineEnd
-  token : {text prefix : List ℕ} {items : List Token} {previous : Previous} (bytes after : List ℕ) (kind : Kind)
+  token : {text prefix : List ℕ} {items : List Token} {previous : Previous}
+      (bytes after : List ℕ) (kind : Kind)
       → Spelled text prefix items previous → text
       ≡ prefix ++ bytes ++ after → IsToken previous bytes after kind
       → IsLongest previous bytes after
-      → Spelled text (prefix ++ bytes) (with_token items kind (length prefix) (length bytes) (line_after prefix))
+      → Spelled text (prefix ++ bytes)
+      (with_token items kind (length prefix) (length bytes) (line_after prefix))
       (previous_of kind)
-  blank : {text prefix : List ℕ} {items : List Token} {previous : Previous} (byte : ℕ) (after : List ℕ)
+  blank : {text prefix : List ℕ} {items : List Token} {previous : Previous}
+      (byte : ℕ) (after : List ℕ)
       → Spelled text prefix items previous → text ≡ prefix ++ byte ∷ after → IsTrue (is_blank byte)
       → Spelled text (prefix ++ byte ∷ []) items previous
   comment : {text prefix : List ℕ} {items : List Token} {previous : Previous} (body after : List ℕ)

@@ -18,7 +18,8 @@ symbol_of LineEndKind bytes = LineEnd
 
 -- a token of a text as the grammar reads it
 abbrev pub terminal_of : List ℕ → Token → Terminal
-terminal_of text token = record { symbol = symbol_of token.kind (token_bytes text token); line = token.line }
+terminal_of text
+    token = record { symbol = symbol_of token.kind (token_bytes text token); line = token.line }
 
 -- the tokens of a text as the grammar reads them
 abbrev pub terminals : List ℕ → List Token → List Terminal

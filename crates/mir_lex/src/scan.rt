@@ -446,7 +446,7 @@ impl Scan {
     }
 }
 
-// Whether the byte belongs to what is pending, of which no other byte of the text has to be known.
+// Whether a word, a number or a comment is pending that goes on with this byte.
 fn stays(pending: Pending, byte: u8) -> bool
     ensures { result ≡ stays pending byte }
 {

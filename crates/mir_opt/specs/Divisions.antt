@@ -72,7 +72,8 @@ pub record DivisionsKept (source : UnitShape) (unit : UnitTrail) (target : UnitS
       → IsDivision source.body p x op left right
       → DividesOf unit.cleaned.nodes (node p) x op left right
   pub in_order : (p q x y : ℕ) (op other : Op) (a b c d : Operand)
-      → IsDivision source.body p x op a b → IsDivision source.body q y other c d → p < q → node p < node q
+      → IsDivision source.body p x op a b → IsDivision source.body q y other c d → p < q
+      → node p < node q
   pub states : ℕ → NodeState
   pub least : HasLeastStates unit.cleaned states
   pub place : ℕ → ℕ

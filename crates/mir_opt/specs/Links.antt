@@ -30,7 +30,8 @@ use Rattle.mir_opt.specs.Stages.{AreLaid, graph_at, move_graph_at}
 
 -- the steps of code motion: the split graph, the expressions of it that are moved, their lazy placement by the rule,
 -- and the graph rewritten by it
-pub record IsMotion (exprs : List Node → List Expr) (Down : GraphShape → Expr → ℕ → Type 0) (graph split : GraphShape)
+pub record IsMotion (exprs : List Node → List Expr) (Down : GraphShape → Expr → ℕ → Type 0)
+    (graph split : GraphShape)
     (table : List Expr) (placement : Placement) (moved : GraphShape) : Type 0 where
   pub splits : IsEdgeSplit graph split
   pub table_is : table ≡ exprs split.nodes
@@ -90,7 +91,8 @@ pub record LinksDivision (source : UnitShape) (unit : MoveUnit) : Type 0 where
 
 -- each unit of the source has its steps, and the unit of the target of its number is the layout of their last graph;
 -- there are no others, and the globals are those of the source
-pub record AllLinked {T S : Type 0} (graph_of : T → S → GraphShape) (last : S) (Links : UnitShape → T → Type 0)
+pub record AllLinked {T S : Type 0} (graph_of : T → S → GraphShape) (last : S)
+    (Links : UnitShape → T → Type 0)
     (source : ProgramShape) (units : List T) (target : ProgramShape) : Type 0 where
   pub steps : AllZip Links source.units units
   pub laid : AreLaid graph_of last units target.units
@@ -102,11 +104,13 @@ IsLinked trail = AllLinked graph_at Result LinksUnit trail.source trail.units tr
 
 -- the trail of `motion`
 abbrev pub IsMoveLinked : MoveTrail → Type 0
-IsMoveLinked trail = AllLinked move_graph_at moves.Result LinksMove trail.source trail.units trail.target
+IsMoveLinked trail =
+    AllLinked move_graph_at moves.Result LinksMove trail.source trail.units trail.target
 
 -- the trail of `divisions`
 abbrev pub IsDivisionLinked : MoveTrail → Type 0
-IsDivisionLinked trail = AllLinked move_graph_at moves.Result LinksDivision trail.source trail.units trail.target
+IsDivisionLinked trail =
+    AllLinked move_graph_at moves.Result LinksDivision trail.source trail.units trail.target
 
 -- no other trail of the program is linked
 abbrev pub IsOnlyTrail : ProgramShape → Trail → Type 0
@@ -126,4 +130,5 @@ IsOnlyDivisionTrail program trail = (other : MoveTrail) → other.source ≡ pro
 
 -- a unit of the source has no two values of linked steps, where those of one lead to nodes
 abbrev pub HasOneLink : {T : Type 0} → (T → Type 0) → (UnitShape → T → Type 0) → Type 0
-HasOneLink {T = T} Within Links = (source : UnitShape) (a b : T) → Within a → Links source a → Links source b → a ≡ b
+HasOneLink {T = T} Within Links =
+    (source : UnitShape) (a b : T) → Within a → Links source a → Links source b → a ≡ b

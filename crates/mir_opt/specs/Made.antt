@@ -54,7 +54,8 @@ pub record MoveBest (source : UnitShape) (unit : MoveUnit) : Type 0 where
 -- the steps are linked, their code motion is the best, the graph of each stage keeps the unit, and those that are
 -- cleaned lead to nodes
 pub record UnitMade {T S : Type 0} (graph_of : T → S → GraphShape)
-    (Links Best : UnitShape → T → Type 0) (Within : T → Type 0) (source : UnitShape) (unit : T) : Type 0 where
+    (Links Best : UnitShape → T → Type 0) (Within : T → Type 0) (source : UnitShape)
+    (unit : T) : Type 0 where
   pub linked : Links source unit
   pub best : Best source unit
   pub keeps : (stage : S) → Keeps (AsUnit source) (AsGraph (graph_of unit stage))
@@ -63,7 +64,8 @@ pub record UnitMade {T S : Type 0} (graph_of : T → S → GraphShape)
 -- so it is of the steps of each unit of a program
 abbrev pub AllMade : {T S : Type 0} → (T → S → GraphShape) → (UnitShape → T → Type 0)
     → (UnitShape → T → Type 0) → (T → Type 0) → List UnitShape → List T → Type 0
-AllMade graph_of Links Best Within sources units = AllZip (UnitMade graph_of Links Best Within) sources units
+AllMade graph_of Links Best Within sources units =
+    AllZip (UnitMade graph_of Links Best Within) sources units
 
 -- the first steps: each graph keeps what comes before it
 pub record LoweredMade (source : UnitShape) (made : Lowered) : Type 0 where
@@ -140,12 +142,14 @@ pub record IsKept (source target : UnitShape) : Type 0 where
 
 -- the units are the layouts of the graphs at a stage, one by one
 abbrev pub AllLaidOut : {T S : Type 0} → (T → S → GraphShape) → S → List T → List UnitShape → Type 0
-AllLaidOut graph_of stage units targets = AllZip (λ unit target. IsLaidOut (graph_of unit stage) target) units targets
+AllLaidOut graph_of stage units targets =
+    AllZip (λ unit target. IsLaidOut (graph_of unit stage) target) units targets
 
 -- each division of the graphs at a stage is an instruction of the unit of its number
 abbrev pub AllLayDivisions : {T S : Type 0} → (T → S → GraphShape) → S → List T → List UnitShape
     → Type 0
-AllLayDivisions graph_of stage units targets = AllZip (λ unit target. DivisionsLaid (graph_of unit stage) target) units targets
+AllLayDivisions graph_of stage units targets =
+    AllZip (λ unit target. DivisionsLaid (graph_of unit stage) target) units targets
 
 -- what is made of the units of a program: the steps of each unit, and the program of the layouts of their last
 -- graphs, which keeps the program

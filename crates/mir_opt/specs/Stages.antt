@@ -87,11 +87,13 @@ MotionCleansWithin unit = AllWithin unit.lowered.nodes × AllWithin unit.moved.n
 -- at each stage the graph of each unit keeps the unit of the source of its number
 abbrev pub AllKeep : {T S : Type 0} → (T → S → GraphShape) → List UnitShape → List T → Type 0
 AllKeep {S = S} graph_of sources units =
-    AllZip (λ source unit. (stage : S) → Keeps (AsUnit source) (AsGraph (graph_of unit stage))) sources units
+    AllZip (λ source unit. (stage : S) → Keeps (AsUnit source) (AsGraph (graph_of unit stage)))
+    sources units
 
 -- these units are the layouts of the graphs of a stage
 abbrev pub AreLaid : {T S : Type 0} → (T → S → GraphShape) → S → List T → List UnitShape → Type 0
-AreLaid graph_of stage units targets = AllZip (λ unit target. IsLayout (graph_of unit stage) target) units targets
+AreLaid graph_of stage units targets =
+    AllZip (λ unit target. IsLayout (graph_of unit stage) target) units targets
 
 -- the second program is the same as the first, as a whole and unit by unit, evaluates no more operators, never has more
 -- frames, and calls no units but those that the first calls

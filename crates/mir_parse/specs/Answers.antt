@@ -11,7 +11,8 @@ use Rattle.mir_parse.specs.Spells.{Spells, IsTextRefusal, IsTextMemory}
 
 -- the tokens are refused for this cause, or memory runs out
 abbrev pub IsRefusedFor : Result Raw ParseFault → ParseFault → Type 0
-IsRefusedFor result fault = MatchResult result (λ raw. ⊥) (λ other. (other ≡ fault) ⊎ IsParseMemory other)
+IsRefusedFor result fault =
+    MatchResult result (λ raw. ⊥) (λ other. (other ≡ fault) ⊎ IsParseMemory other)
 
 -- the raw program that the tokens spell is answered, or memory runs out
 abbrev pub AnswersRaw : Result Raw ParseFault → List Terminal → Type 0

@@ -84,12 +84,14 @@ test_symbols (Fails a) = MARK Bang ∷ operand_symbol a ∷ []
 -- { ";" operand "," int }
 abbrev pub more_symbols : List RawOperand → List Symbol
 more_symbols [] = []
-more_symbols (a ∷ args) = MARK Semicolon ∷ operand_symbol a ∷ MARK Comma ∷ NAME (codes "int") ∷ more_symbols args
+more_symbols (a ∷ args) =
+    MARK Semicolon ∷ operand_symbol a ∷ MARK Comma ∷ NAME (codes "int") ∷ more_symbols args
 
 -- args = "(" [ operand "," int { ";" operand "," int } ] ")", here without the last token
 abbrev pub open_args : List RawOperand → List Symbol
 open_args [] = MARK LeftParen ∷ []
-open_args (a ∷ args) = MARK LeftParen ∷ operand_symbol a ∷ MARK Comma ∷ NAME (codes "int") ∷ more_symbols args
+open_args (a ∷ args) =
+    MARK LeftParen ∷ operand_symbol a ∷ MARK Comma ∷ NAME (codes "int") ∷ more_symbols args
 
 -- the arguments of a call with their types, and the end of the call
 abbrev pub args_symbols : List RawOperand → List Symbol

@@ -22,9 +22,13 @@ empty_unit name line = record { name = name; line = line; labels = []; body = []
 
 -- the unit with one more instruction at its end
 abbrev pub unit_with_inst : RawUnitShape → ℕ → RawForm → RawUnitShape
-unit_with_inst unit line form = record unit { body = unit.body ++ record { line = line; form = form } ∷ [] }
+unit_with_inst unit line form = record unit
+    { body = unit.body ++ record { line = line; form = form } ∷ [] }
 
 -- the unit with one more label, which stands behind its instructions
 abbrev pub unit_with_label : RawUnitShape → ℕ → List ℕ → RawUnitShape
 unit_with_label unit line name =
-    record unit { labels = unit.labels ++ record { name = name; place = length unit.body; line = line } ∷ [] }
+    record unit {
+      labels = unit.labels ++ record { name = name; place = length unit.body; line = line }
+          ∷ [];
+    }

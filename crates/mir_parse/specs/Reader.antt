@@ -304,7 +304,8 @@ outside whole symbol at = Stopped at
 -- in a global line that began on `line`, after `global` or after its name
 abbrev pub in_global : List RawGlobal → ℕ → Option (List ℕ) → Symbol → ℕ → ReadSoFar
 in_global globals line None (NAME x) at = InGlobal globals line (Some x)
-in_global globals line (Some x) NL at = Outside (globals_alone (globals ++ record { name = x; line = line } ∷ []))
+in_global globals line (Some x) NL at =
+    Outside (globals_alone (globals ++ record { name = x; line = line } ∷ []))
 in_global globals line name symbol at = Stopped at
 
 -- after the name of a unit
@@ -351,7 +352,8 @@ unit_progressed Stops reading spot at = Stopped at
 
 -- the unit progressed by the token so that this is the state after it, unless memory runs out
 abbrev pub Progresses : {E : Type 0} → ReadSoFar → Reading → Spot → ℕ → Result Progress E → Type 0
-Progresses state reading spot at result = IfOk result (λ progress. unit_progressed progress reading spot at ≡ state)
+Progresses state reading spot at result =
+    IfOk result (λ progress. unit_progressed progress reading spot at ≡ state)
 
 -- the same for a token that leaves what was read as it is
 abbrev pub ProgressesEach : (Reading → ℕ → ReadSoFar) → Spot → Progress → Type 0
@@ -362,7 +364,9 @@ ProgressesEach step spot progress = (reading : Reading) → (at : ℕ)
 abbrev pub AfterPart : {E : Type 0} → Progress → Reading → Spot → Reading → Spot → Result Progress E
     → Type 0
 AfterPart progress reading (Mid line part) reading' spot' result =
-    (at : ℕ) → Progresses (reading_after reading line at (next_by progress part)) reading' spot' at result
+    (at : ℕ)
+    → Progresses (reading_after reading line at (next_by progress part))
+    reading' spot' at result
 AfterPart progress reading spot reading' spot' result = Unit {0}
 
 -- the second state is what a token made of the first one, in a unit

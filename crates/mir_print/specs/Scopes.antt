@@ -8,7 +8,12 @@ use Rattle.mir_print.specs.declared.scope.Scope.{Scope}
 
 -- the names by which the scope prints
 abbrev pub naming_of : Scope → Naming
-naming_of scope = record { units = map (λ unit. unit.name) scope.units.now; vars = scope.vars.now; body = scope.body.now }
+naming_of
+    scope = record {
+      units = map (λ unit. unit.name) scope.units.now;
+      vars = scope.vars.now;
+      body = scope.body.now;
+    }
 
 -- what stands before argument number n of a call
 abbrev pub separator : ℕ → List ℕ
@@ -20,7 +25,8 @@ arg_text naming number operand = separator number ++ (operand_text naming operan
 
 -- two operands with an operator between them, and a blank on each side of it
 abbrev pub spaced_text : Naming → Operand → List ℕ → Operand → List ℕ
-spaced_text naming a op b = operand_text naming a ++ codes " " ++ op ++ codes " " ++ operand_text naming b
+spaced_text naming a op b =
+    operand_text naming a ++ codes " " ++ op ++ codes " " ++ operand_text naming b
 
 -- a unit, among these units
 abbrev pub unit_text_among : List UnitShape → UnitShape → List ℕ

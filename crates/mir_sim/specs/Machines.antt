@@ -27,7 +27,8 @@ codes_in machines unit = (machines unit).code
 -- the state after n steps, or at the end if that comes first; there are as many globals as the first machine has, and
 -- each begins at 0
 abbrev pub machines_run : Machines → List ℤ → ℕ → State
-machines_run machines inputs n = steps (codes_in machines) n (first_state (machines 0).shared inputs)
+machines_run machines inputs n =
+    steps (codes_in machines) n (first_state (machines 0).shared inputs)
 
 -- as many inputs as the first unit receives, each of them a signed 64-bit number
 pub record AreInputs (machines : Machines) (inputs : List ℤ) : Type 0 where
@@ -58,7 +59,7 @@ pub record MachinesShallower (first second : Machines) : Type 0 where
   pub shallower : (inputs : List ℤ) → AreInputs first inputs → (n : ℕ) → (m : ℕ)
       × ((machines_run second inputs n).depth ≤ (machines_run first inputs m).depth)
 
--- all three
+-- the second does the same as the first, evaluates no more, and is never deeper
 pub record MachinesKeep (first second : Machines) : Type 0 where
   pub same : MachinesSame first second
   pub cheaper : MachinesCheaper first second

@@ -82,25 +82,29 @@ pub record Standing (shared : ℕ) (Q : Type 0) (c d : Code) (f g : Frame) (x y 
 pub record Waiting (shared : ℕ) (Q : Type 0) (codes codes' : ℕ → Code) (p q : Caller)
     (x y : ℕ) : Type 0 where
   pub goes_on : (answer : Answer) → IsCallAnswer shared answer
-      → Pair shared Q (codes p.unit) (codes' q.unit) x y (resumed p.into answer p.frame) (resumed q.into answer q.frame)
+      → Pair shared Q (codes p.unit) (codes' q.unit) x y (resumed p.into answer p.frame)
+      (resumed q.into answer q.frame)
   pub fits : FrameFits p.frame
 
 -- each caller follows the one of the same height
 abbrev pub MatchCallers : (shared : ℕ) (Q : Type 0) (codes codes' : ℕ → Code) → List Caller
     → List Caller → ℕ → ℕ → Type 0
 MatchCallers shared Q codes codes' [] [] E E' = Q → E' ≤ E
-MatchCallers shared Q codes codes' (p ∷ ps) (q ∷ qs) E E' = Layer E E' (MatchCallers shared Q codes codes' ps qs) (Waiting shared Q codes codes' p q)
+MatchCallers shared Q codes codes' (p ∷ ps) (q ∷ qs) E E' =
+    Layer E E' (MatchCallers shared Q codes codes' ps qs) (Waiting shared Q codes codes' p q)
 MatchCallers shared Q codes codes' _ _ E E' = ⊥
 
 -- and so does the running frame
 abbrev pub MatchRunning : (shared : ℕ) (Q : Type 0) (codes codes' : ℕ → Code) → ℕ → Frame
     → List Caller → ℕ → Frame → List Caller → ℕ → ℕ → Type 0
-MatchRunning shared Q codes codes' u f ps u' g qs E E' = Layer E E' (MatchCallers shared Q codes codes' ps qs) (Standing shared Q (codes u) (codes' u') f g)
+MatchRunning shared Q codes codes' u f ps u' g qs E E' = Layer E E'
+    (MatchCallers shared Q codes codes' ps qs) (Standing shared Q (codes u) (codes' u') f g)
 
 -- the runs stand alike
 abbrev pub MatchControl : (shared : ℕ) (Q : Type 0) (codes codes' : ℕ → Code) → Control → Control
     → ℕ → ℕ → Type 0
-MatchControl shared Q codes codes' (Running u f ps) (Running u' g qs) E E' = MatchRunning shared Q codes codes' u f ps u' g qs E E'
+MatchControl shared Q codes codes' (Running u f ps) (Running u' g qs) E E' =
+    MatchRunning shared Q codes codes' u f ps u' g qs E E'
 MatchControl shared Q codes codes' (Ended v) (Ended w) E E' = (v ≡ w) × (Q → E' ≤ E)
 MatchControl shared Q codes codes' (Stopped k) (Stopped l) E E' = k ≡ l
 MatchControl shared Q codes codes' _ _ E E' = ⊥
@@ -116,7 +120,8 @@ pub record MatchState (shared : ℕ) (Q : Type 0) (codes codes' : ℕ → Code)
 
 -- the state of these four parts
 abbrev state : List ℤ → Control → ℕ → ℕ → State
-state printed control counted depth = record { printed = printed; control = control; counted = counted; depth = depth }
+state printed control counted
+    depth = record { printed = printed; control = control; counted = counted; depth = depth }
 
 -- silent steps of the running frame
 silent_steps : (codes : ℕ → Code) (u k : ℕ) (g h : Frame) (n : ℕ) → Silently (codes u) k g h n

@@ -20,7 +20,8 @@ use Rattle.mir_sim.specs.StackSimulations.{Abreast, StepsLead, MeetsAgain, Stack
 abbrev pub control_after : ℕ → List Caller → Transition → Control
 control_after u callers (Continues counted next) = Running u next callers
 control_after u callers (Prints v next) = Running u next callers
-control_after u callers (Calls called entry into next) = Running called (first_frame entry) (record { unit = u; into = into; frame = next } ∷ callers)
+control_after u callers (Calls called entry into next) =
+    Running called (first_frame entry) (record { unit = u; into = into; frame = next } ∷ callers)
 control_after u callers (Returns answer) = returned answer callers
 control_after u callers (Traps kind counted) = Stopped kind
 
@@ -57,7 +58,7 @@ same_state p q c d m n i j e f g h =
 pub leads_nowhere : (codes : ℕ → Code) (c : Control) → StepsLead codes 0 c c [] 0 0
 leads_nowhere codes c printed before depth = same_state printed (printed ++ []) c c before (before + 0) depth (max depth 0) (sym (append-nil printed)) refl (omega arith) (omega arith)
 
--- steps after steps
+-- steps that lead from a to b, and then steps from b to c, lead from a to c
 pub leads_trans : (codes : ℕ → Code) (j k : ℕ) (a b c : Control) (p q : List ℤ) (m n x y : ℕ)
     → StepsLead codes j a b p m x → StepsLead codes k b c q n y
     → StepsLead codes (j + k) a c (p ++ q) (m + n) (max x y)

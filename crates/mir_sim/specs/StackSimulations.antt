@@ -26,7 +26,8 @@ first_stack entry = record { unit = 0; frame = first_frame entry; callers = [] }
 
 -- a state of these
 abbrev pub state_with : List ℤ → Control → ℕ → ℕ → State
-state_with printed control counted depth = record { printed = printed; control = control; counted = counted; depth = depth }
+state_with printed control counted
+    depth = record { printed = printed; control = control; counted = counted; depth = depth }
 
 -- So many steps lead from the one control to the other, whatever was printed and counted before and however deep the
 -- run was: they print these values, count so many evaluations, and their calls make at most so many frames
@@ -43,7 +44,8 @@ StackRelation = ℕ → Stack → Stack → Type 0
 
 -- the relation, or both runs are over in the same way
 abbrev pub Abreast : StackRelation → ℕ → Control → Control → Type 0
-Abreast R z (Running u f ps) (Running v g qs) = R z (record { unit = u; frame = f; callers = ps }) (record { unit = v; frame = g; callers = qs })
+Abreast R z (Running u f ps) (Running v g qs) = R z (record { unit = u; frame = f; callers = ps })
+    (record { unit = v; frame = g; callers = qs })
 Abreast R z (Ended result) (Ended result') = result ≡ result'
 Abreast R z (Stopped kind) (Stopped kind') = kind ≡ kind'
 Abreast R z _ _ = ⊥

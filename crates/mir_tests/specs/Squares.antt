@@ -34,7 +34,8 @@ squares = record {
   nodes = 14;
   edges = 15;
   source = λ e. e - min 1 (e - 3);
-  target = λ e. if nat_eq e 4 then 10 else (if nat_eq e 10 then 3 else min 13 (e - min 1 (e - 3) + 1));
+  target = λ e. if nat_eq e 4 then 10
+      else (if nat_eq e 10 then 3 else min 13 (e - min 1 (e - 3) + 1));
   start = λ n. n + min 1 (n - 3);
   stop = λ n. n + 1 + min 1 (n - 2);
   size = 0;

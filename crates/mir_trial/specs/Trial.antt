@@ -21,7 +21,8 @@ use Rattle.mir_trial.specs.Draws.{next, drawn}
 -- the variables, by the numbers that they have here: `a` and `b` are 0 and 1, `v0` to `v5` are 2 to 7, and `c` is 8
 abbrev pub variables : List (List ℕ)
 variables =
-    codes "a" ∷ codes "b" ∷ codes "v0" ∷ codes "v1" ∷ codes "v2" ∷ codes "v3" ∷ codes "v4" ∷ codes "v5" ∷ codes "c" ∷ []
+    codes "a" ∷ codes "b" ∷ codes "v0" ∷ codes "v1" ∷ codes "v2" ∷ codes "v3" ∷ codes "v4"
+    ∷ codes "v5" ∷ codes "c" ∷ []
 
 -- `v0` to `v5`, by the state that the draw makes
 abbrev pub variable : ℕ → ℕ
@@ -67,7 +68,8 @@ plain_group z = record { insts = operation z ∷ []; state = next (next (next (n
 -- `if P goto T`, `V <- a + b`, `T: W <- a + b`, at this place
 abbrev pub branch_group : ℕ → ℕ → Group
 branch_group at z = record {
-  insts = If (Holds (parameter (next z))) (at + 2) ∷ Assign (variable (next (next z))) parameter_sum ∷ Assign
+  insts = If (Holds (parameter (next z))) (at + 2) ∷ Assign (variable (next (next z))) parameter_sum
+      ∷ Assign
       (variable (next (next (next z)))) parameter_sum ∷ [];
   state = next (next (next z));
 }
@@ -113,7 +115,8 @@ call_of j last = if last then [] else (Call (Some 2) (suc j) (Var 3 ∷ Var 4 �
 -- the body of unit number j, before its variables are numbered in the order of their first occurrence
 abbrev pub body_of : ℕ → Bool → ℕ → List Inst
 body_of j last z =
-    (Receive 0 ∷ Receive 1 ∷ []) ++ (groups 60 2 z).insts ++ call_of j last ++ (Print (Var 2) ∷ Return (Var 5) ∷ [])
+    (Receive 0 ∷ Receive 1 ∷ []) ++ (groups 60 2 z).insts ++ call_of j last
+    ++ (Print (Var 2) ∷ Return (Var 5) ∷ [])
 
 -- `u` and the unit's number
 abbrev pub name_of : ℕ → List ℕ
@@ -126,7 +129,8 @@ unit_of j last z = tidied_unit (name_of j) variables (body_of j last z)
 -- so many units, from unit number j on
 abbrev pub units_from : ℕ → ℕ → ℕ → List UnitShape
 units_from zero j z = []
-units_from (suc count) j z = unit_of j (count == 0) z ∷ units_from count (suc j) (groups 60 2 z).state
+units_from (suc count) j z =
+    unit_of j (count == 0) z ∷ units_from count (suc j) (groups 60 2 z).state
 
 -- the program of a number with so many units
 abbrev pub trial_program : ℕ → ℕ → ProgramShape

@@ -57,7 +57,7 @@ has_with vars name x = by (has_name vars name) refl
         ∙ list_any-append (is_text x) vars (name ∷ [])
         ∙ ap (λ b. has_name vars x || b) (or-false (is_text x name))
 
--- after names joined, the list has those and the ones that it had
+-- a list to which names are added has exactly the names that it had and those that are added
 has_fold : (names vars : List (List ℕ)) (x : List ℕ) → has_name (fold with_name vars names) x ≡ (has_name vars x || has_name names x)
 has_fold [] vars x = sym (or-false (has_name vars x))
 has_fold (name ∷ names) vars x =

@@ -48,7 +48,7 @@ is_some_cond : (b : Bool) (n : ℕ) (found : Option ℕ) → is_some (cond b (So
 is_some_cond true n found = refl
 is_some_cond false n found = refl
 
--- the names that are numbered are those that are found
+-- a name has a number in the table exactly where the list has it
 pub has_number : (n : ℕ) (names : List (List ℕ)) (x : List ℕ) → is_some (number_in (entries_from n names) x) ≡ has_name names x
 has_number n [] x = refl
 has_number n (name ∷ names) x =

@@ -32,9 +32,11 @@ misses_place table form = option_map_or (λ l. is_none (number_in table l)) (jum
 
 -- a call names no unit of the table
 abbrev pub misses_number : List NameEntry → RawForm → Bool
-misses_number table form = option_map_or (λ call. is_none (number_in table call.0)) (called_by form) false
+misses_number table form =
+    option_map_or (λ call. is_none (number_in table call.0)) (called_by form) false
 
--- what a rule looks up of an instruction is not in the table, or is another count
+-- whether an instruction breaks the rule: it names a label, or calls a unit, that is not in the table, or hands over
+-- another number of arguments than the table has for the unit
 abbrev pub breaks : Lookup → List NameEntry → RawForm → Bool
 breaks NoLabel table = misses_place table
 breaks NoUnit table = misses_number table

@@ -83,12 +83,16 @@ numbered_trap z = if is_bad_number z then 0 else unsigned_abs z
 -- an instruction, with its variables, its target and its callee numbered
 abbrev pub numbered_form : Numbers → RawForm → Inst
 numbered_form numbers (RawReceive x) = Receive (number_or_zero numbers.vars x)
-numbered_form numbers (RawAssign x rhs) = Assign (number_or_zero numbers.vars x) (numbered_rhs numbers.vars rhs)
+numbered_form numbers (RawAssign x rhs) =
+    Assign (number_or_zero numbers.vars x) (numbered_rhs numbers.vars rhs)
 numbered_form numbers (RawGoto l) = Goto (number_or_zero numbers.labels l)
-numbered_form numbers (RawIf test l) = If (numbered_test numbers.vars test) (number_or_zero numbers.labels l)
-numbered_form numbers (RawTrapIf test z) = TrapIf (numbered_test numbers.vars test) (numbered_trap z)
+numbered_form numbers (RawIf test l) =
+    If (numbered_test numbers.vars test) (number_or_zero numbers.labels l)
+numbered_form numbers (RawTrapIf test z) =
+    TrapIf (numbered_test numbers.vars test) (numbered_trap z)
 numbered_form numbers (RawCall into f operands) =
-    Call (numbered_into numbers.vars into) (number_or_zero numbers.units f) (map (numbered_operand numbers.vars) operands)
+    Call (numbered_into numbers.vars into) (number_or_zero numbers.units f)
+    (map (numbered_operand numbers.vars) operands)
 numbered_form numbers (RawPrint a) = Print (numbered_operand numbers.vars a)
 numbered_form numbers (RawReturn a) = Return (numbered_return numbers.vars a)
 

@@ -15,7 +15,8 @@ use Rattle.mir_valid.specs.Names.{NameEntry, has_name, number_in}
 abbrev pub broken_after : {A : Type 0} → (A → ℕ) → (List A → A → Bool) → List A → List A → List ℕ
 broken_after line breaks earlier [] = []
 broken_after line breaks earlier (x ∷ xs) =
-    (if breaks earlier x then line x ∷ [] else []) ++ broken_after line breaks (earlier ++ x ∷ []) xs
+    (if breaks earlier x then line x ∷ [] else [])
+    ++ broken_after line breaks (earlier ++ x ∷ []) xs
 
 -- the lines of all the items that break a rule
 abbrev pub broken : {A : Type 0} → (A → ℕ) → (List A → A → Bool) → List A → List ℕ
@@ -29,7 +30,8 @@ unit_names units = map (λ unit. unit.name) units
 
 -- a unit has the name of an earlier one
 abbrev pub same_unit_lines : List RawUnitShape → List ℕ
-same_unit_lines units = broken (λ unit. unit.line) (λ earlier unit. has_name (unit_names earlier) unit.name) units
+same_unit_lines units =
+    broken (λ unit. unit.line) (λ earlier unit. has_name (unit_names earlier) unit.name) units
 
 -- ---- instructions
 
@@ -64,7 +66,7 @@ lines_where test body = map (λ inst. inst.line) (filter (λ inst. test inst.for
 
 -- ---- sizes
 
--- an instruction is number 16,385 of its unit
+-- the line of instruction 16,385 of the unit, where it has so many: that is one too many
 abbrev pub too_many_insts_lines : RawUnitShape → List ℕ
 too_many_insts_lines unit = line_of (slice_get unit.body most_insts)
 
@@ -88,7 +90,8 @@ is_other inst = not (is_receive inst)
 
 -- a receive follows another kind of instruction or a label
 abbrev pub is_late : List RawLabel → List RawInst → RawInst → Bool
-is_late labels earlier inst = is_receive inst && (list_any is_other earlier || has_label_before labels (length earlier))
+is_late labels earlier inst =
+    is_receive inst && (list_any is_other earlier || has_label_before labels (length earlier))
 
 -- the lines of receives behind another instruction or a label
 abbrev pub late_receive_lines : RawUnitShape → List ℕ
@@ -100,7 +103,8 @@ received body = filter_map (λ inst. received_by inst.form) body
 
 -- a receive names a variable that an earlier one names
 abbrev pub receives_again : List RawInst → RawInst → Bool
-receives_again earlier inst = option_map_or (has_name (received earlier)) (received_by inst.form) false
+receives_again earlier inst =
+    option_map_or (has_name (received earlier)) (received_by inst.form) false
 
 -- the lines of receives of a variable that is received before
 abbrev pub same_receive_lines : RawUnitShape → List ℕ
@@ -115,11 +119,13 @@ label_names labels = map (λ label. label.name) labels
 -- a label has the name of an earlier one of its unit
 abbrev pub same_label_lines : RawUnitShape → List ℕ
 same_label_lines unit =
-    broken (λ label. label.line) (λ earlier label. has_name (label_names earlier) label.name) unit.labels
+    broken (λ label. label.line)
+    (λ earlier label. has_name (label_names earlier) label.name) unit.labels
 
 -- a `goto` or `if` names none of the labels
 abbrev pub misses_label : List RawLabel → RawForm → Bool
-misses_label labels form = option_map_or (λ l. not (has_name (label_names labels) l)) (jumped_to form) false
+misses_label labels form =
+    option_map_or (λ l. not (has_name (label_names labels) l)) (jumped_to form) false
 
 -- the lines of jumps to a label that the unit does not have
 abbrev pub no_label_lines : RawUnitShape → List ℕ
@@ -129,7 +135,8 @@ no_label_lines unit = lines_where (misses_label unit.labels) unit.body
 
 -- a call names none of the units
 abbrev pub misses_unit : List RawUnitShape → RawForm → Bool
-misses_unit units form = option_map_or (λ call. not (has_name (unit_names units) call.0)) (called_by form) false
+misses_unit units form =
+    option_map_or (λ call. not (has_name (unit_names units) call.0)) (called_by form) false
 
 -- the lines of calls of a unit that is not there
 abbrev pub no_unit_lines : List RawUnitShape → RawUnitShape → List ℕ
@@ -142,7 +149,8 @@ receive_counts units = map (λ unit. (unit.name, count_by is_receive unit.body))
 -- a call names a unit that has a count, and has another number of arguments
 abbrev pub differs_from : List NameEntry → RawForm → Bool
 differs_from counts form =
-    option_map_or (λ call. option_map_or (λ count. not (nat_eq count call.1)) (number_in counts call.0) false)
+    option_map_or
+    (λ call. option_map_or (λ count. not (nat_eq count call.1)) (number_in counts call.0) false)
     (called_by form) false
 
 -- the lines of calls with another number of arguments than the unit receives
@@ -157,7 +165,8 @@ global_names globals = map (λ g. g.name) globals
 
 -- a global line names an earlier global
 abbrev pub same_global_lines : List RawGlobal → List ℕ
-same_global_lines globals = broken (λ g. g.line) (λ earlier g. has_name (global_names earlier) g.name) globals
+same_global_lines globals =
+    broken (λ g. g.line) (λ earlier g. has_name (global_names earlier) g.name) globals
 
 -- the line of a global, where there is one
 abbrev pub global_line_of : Option RawGlobal → List ℕ
@@ -170,7 +179,8 @@ too_many_globals_lines globals = global_line_of (slice_get globals most_globals)
 
 -- a receive names a global
 abbrev pub receives_global : List RawGlobal → RawForm → Bool
-receives_global globals form = option_map_or (has_name (global_names globals)) (received_by form) false
+receives_global globals form =
+    option_map_or (has_name (global_names globals)) (received_by form) false
 
 -- the lines of receives of globals
 abbrev pub global_receive_lines : List RawGlobal → RawUnitShape → List ℕ

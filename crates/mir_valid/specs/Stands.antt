@@ -102,7 +102,8 @@ pub record UnitStands (globals units : List (List ℕ)) (raw : RawUnitShape)
   pub shared : unit.shared ≡ length globals
   pub vars : FirstNames (globals ++ body_names raw.body) unit.vars
   pub body : EachStands
-      (λ inst. FormStands (record { units = units; vars = unit.vars; labels = raw.labels }) inst.form) raw.body
+      (λ inst. FormStands (record { units = units; vars = unit.vars; labels = raw.labels })
+      inst.form) raw.body
       unit.body
 
 -- the raw units stand for these units; a unit's number is its place

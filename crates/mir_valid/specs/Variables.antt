@@ -32,7 +32,7 @@ abbrev pub into_names : Option (List ℕ) → List (List ℕ)
 into_names None = []
 into_names (Some x) = x ∷ []
 
--- the variable that is returned
+-- the variable that is returned, where a variable is
 abbrev pub returned_names : Option RawOperand → List (List ℕ)
 returned_names None = []
 returned_names (Some a) = operand_names a

@@ -210,7 +210,7 @@ fn numbered_test(vars: &Table, test: &RawTest) -> Test
     }
 }
 
-// The number of a trap; 0 for one that none has.
+// The number of a trap as a byte; 0 where the number is below 0 or above 255.
 fn numbered_trap(number: i64) -> u8
     ensures { result ≡ numbered_trap number }
 {

@@ -41,7 +41,8 @@ ChangesBelow vars temps rows = (n : ℕ) → n < length rows
 
 -- the graph with each node changed by its row
 abbrev pub graph_read : List ℕ → List (List Bool) → GraphShape → GraphShape
-graph_read temps rows graph = graph_change_each (λ n. change_by temps (row_of rows n)) (length rows) graph
+graph_read temps rows graph =
+    graph_change_each (λ n. change_by temps (row_of rows n)) (length rows) graph
 
 -- the variables of what is put are below this number
 abbrev pub PutsBelow : ℕ → List ℕ → List Expr → List (List Bool) → Type 0
@@ -50,4 +51,5 @@ PutsBelow vars temps table rows = (n : ℕ) → n < length rows
 
 -- the graph with the assignments of each row before its node
 abbrev pub graph_evaluating : List ℕ → List Expr → List (List Bool) → GraphShape → GraphShape
-graph_evaluating temps table rows graph = graph_put_each (λ n. puts_by temps table (row_of rows n)) (length rows) graph
+graph_evaluating temps table rows graph =
+    graph_put_each (λ n. puts_by temps table (row_of rows n)) (length rows) graph

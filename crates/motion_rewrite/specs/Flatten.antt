@@ -37,7 +37,8 @@ insertion_of x (Some e) = record { var = x; rhs = rhs_of e } ∷ []
 -- the expressions of these numbers, each assigned to its temporary
 abbrev pub insertions_of : (ℕ → ℕ) → List Expr → List ℕ → List Insertion
 insertions_of temp table [] = []
-insertions_of temp table (i ∷ numbers) = insertion_of (temp i) (slice_get table i) ++ insertions_of temp table numbers
+insertions_of temp table (i ∷ numbers) =
+    insertion_of (temp i) (slice_get table i) ++ insertions_of temp table numbers
 
 -- ---- replaced right sides
 

@@ -43,7 +43,8 @@ IsAnticipatable graph e n = BornAfter graph.nodes (uses graph e) (kills graph e)
 pub record DownLaws (graph : GraphShape) (e : Expr) (Down : ℕ → Type 0) : Type 0 where
   -- a node that uses e is down
   pub used : (n : ℕ) → n < length graph.nodes → uses graph e n ≡ true → Down n
-  -- a node that is down and does not use e does not kill e, has a successor, and all its successors are down
+  -- a node that is down and does not use e does not kill e, has a successor, and all its successors
+  -- are down
   pub keeps : (n : ℕ) → n < length graph.nodes → Down n → uses graph e n ≡ false
       → kills graph e n ≡ false
   pub continues : (n : ℕ) → n < length graph.nodes → Down n → uses graph e n ≡ false
@@ -94,7 +95,8 @@ nowhere = record { inserts = λ n. false; replaces = λ n. false }
 
 -- how often e is evaluated on the path: at the insertions, and at the uses that are not replaced
 abbrev pub count : GraphShape → Expr → Places → List ℕ → ℕ
-count graph e p path = count_by p.inserts path + count_by (λ n. uses graph e n && not (p.replaces n)) path
+count graph e p path =
+    count_by p.inserts path + count_by (λ n. uses graph e n && not (p.replaces n)) path
 
 -- how often e is evaluated at one node
 abbrev pub evaluations_at : GraphShape → Expr → Places → ℕ → ℕ
@@ -111,11 +113,13 @@ pub record IsOptimal (graph : GraphShape) (e : Expr) (Down : ℕ → Type 0) (p 
 
 -- the placement is admissible for each expression, by the rule that says where it is down
 abbrev pub AreAdmissible : GraphShape → List Expr → (Expr → ℕ → Type 0) → Placement → Type 0
-AreAdmissible graph table Down p = ForEachExpr table (λ i e. IsAdmissible graph e (Down e) (places_of p i))
+AreAdmissible graph table Down p =
+    ForEachExpr table (λ i e. IsAdmissible graph e (Down e) (places_of p i))
 
 -- it is optimal for each expression
 abbrev pub AreOptimal : GraphShape → List Expr → (Expr → ℕ → Type 0) → Placement → Type 0
-AreOptimal graph table Down p = ForEachExpr table (λ i e. IsOptimal graph e (Down e) (places_of p i))
+AreOptimal graph table Down p =
+    ForEachExpr table (λ i e. IsOptimal graph e (Down e) (places_of p i))
 
 -- the graph can be rewritten by it, expression by expression
 abbrev pub CanFlattenBy : GraphShape → List Expr → Placement → Type 0
@@ -142,7 +146,9 @@ TrapsFrom graph e n = (arguments : List ℤ) (values : Values) → rhs_traps val
 -- would not
 abbrev pub InsertionsTrapAlike : GraphShape → List Expr → Placement → Type 0
 InsertionsTrapAlike graph table p =
-    ForEachExpr table (λ i e. (n : ℕ) → n < length graph.nodes → has_bit p.insert i n ≡ true → TrapsFrom graph e n)
+    ForEachExpr table
+    (λ i e. (n : ℕ) → n < length graph.nodes → has_bit p.insert i n ≡ true
+    → TrapsFrom graph e n)
 
 -- the placement evaluates no expression of the table more often than the nodes as they are
 pub record IsNoDearer (graph : GraphShape) (table : List Expr) (p : Placement) : Type 0 where

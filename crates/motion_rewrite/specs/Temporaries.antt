@@ -10,7 +10,8 @@ has_insertion (row ∷ rows) i = has_bit (row ∷ []) i 0 || has_insertion rows 
 -- how many expressions before number i have an insertion
 abbrev pub temporaries_before : List (List Bool) → ℕ → ℕ
 temporaries_before rows zero = 0
-temporaries_before rows (suc i) = temporaries_before rows i + (if has_insertion rows i then 1 else 0)
+temporaries_before rows (suc i) =
+    temporaries_before rows i + (if has_insertion rows i then 1 else 0)
 
 -- the temporary of expression i, where the graph has so many variables: each expression with an insertion has the next
 -- number, in the order of the table

@@ -49,7 +49,8 @@ OtherListsStay list old new = new ≡ slice_set old list (list_at new list)
 -- a list with a new node put before another, wherever that one stands
 abbrev pub inserted_before : ℕ → ℕ → List ℕ → List ℕ
 inserted_before node new [] = []
-inserted_before node new (x ∷ xs) = if nat_eq x node then new ∷ x ∷ inserted_before node new xs else x ∷ inserted_before node new xs
+inserted_before node new (x ∷ xs) =
+    if nat_eq x node then new ∷ x ∷ inserted_before node new xs else x ∷ inserted_before node new xs
 
 -- a list without a node; the others keep their order
 abbrev pub without : ℕ → List ℕ → List ℕ

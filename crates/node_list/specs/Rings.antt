@@ -12,15 +12,18 @@ Along next prev from (x ∷ xs) = (next from ≡ x) × (prev x ≡ from) × Alon
 -- the nodes that the links lead along from a number, up to the first that is no node; at most so many
 abbrev pub linked_from : (ℕ → ℕ) → ℕ → ℕ → ℕ → List ℕ
 linked_from next nodes zero from = []
-linked_from next nodes (suc most) from = if nat_lt from nodes then from ∷ linked_from next nodes most (next from) else []
+linked_from next nodes (suc most) from =
+    if nat_lt from nodes then from ∷ linked_from next nodes most (next from) else []
 
 -- the lists that the links lead along
 abbrev pub lists_along : ℕ → ℕ → (ℕ → ℕ) → List (List ℕ)
-lists_along nodes count next = map (λ list. linked_from next nodes nodes (next (nodes + list))) (range_with_len 0 count)
+lists_along nodes count next =
+    map (λ list. linked_from next nodes nodes (next (nodes + list))) (range_with_len 0 count)
 
 -- the lists as contracts see them, of a slice of links
 abbrev pub linked_lists : ℕ → ℕ → List ℕ → Lists
-linked_lists nodes count next = record { nodes = nodes; lists = lists_along nodes count (slice_index next) }
+linked_lists nodes count
+    next = record { nodes = nodes; lists = lists_along nodes count (slice_index next) }
 
 -- a list of links after two writes, the second one last
 abbrev pub with_two : List ℕ → ℕ → ℕ → ℕ → ℕ → List ℕ
@@ -43,7 +46,8 @@ pub record AreRings (nodes : ℕ) (lists : List (List ℕ)) (next prev : ℕ →
 pub record HoldLinks (nodes count : ℕ) (next prev : List ℕ) : Type 0 where
   pub next_len : length next ≡ nodes + count
   pub prev_len : length prev ≡ nodes + count
-  pub linked : AreRings nodes (lists_along nodes count (slice_index next)) (slice_index next) (slice_index prev)
+  pub linked : AreRings nodes (lists_along nodes count (slice_index next))
+      (slice_index next) (slice_index prev)
 
 -- each of so many lists has its own number alone: a list and the number of its ring are linked to each other, and all
 -- other nodes to themselves

@@ -12,6 +12,7 @@ use Rattle.path_images.specs.Order.{writes_in_order}
 abbrev pub over_both : (ℕ → List ℕ) → (ℕ → List ℕ) → ℕ → List ℕ
 over_both over1 over n = flat_map over1 (over n)
 
+-- to take a path over by both is to take it over by one and then by the other
 pub lift_both : (over1 over : ℕ → List ℕ) (path : List ℕ) → flat_map (over_both over1 over) path ≡ flat_map over1 (flat_map over path)
 lift_both over1 over [] = refl
 lift_both over1 over (n ∷ path) = ap (λ l. flat_map over1 (over n) ++ l) (lift_both over1 over path) ∙ sym (flat_map-append over1 (over n) (flat_map over path))

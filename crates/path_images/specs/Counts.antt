@@ -31,6 +31,7 @@ from_latest so (n ∷ l) = elim (cases_Bool (so n)) [
       omega (arith, one, r, e)
 ]
 
+-- a node that is so counts one more
 pub one_more : (so : ℕ → Bool) (n : ℕ) (l : List ℕ) → so n ≡ true → how_many so (n ∷ l) ≡ 1 + how_many so l
 one_more so n l is = ap (λ b. (if b then 1 else 0) + how_many so l) is
 

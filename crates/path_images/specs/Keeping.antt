@@ -7,7 +7,7 @@ use Rattle.path_images.specs.Images.{Acts, Ask, IsAbove, IsImage, NoneDead, Read
 use Rattle.path_images.specs.Order.{Clash, clash_acts, clash_alike, clash_back, in_order, one_place, stands_later}
 use Rattle.path_images.specs.Passing.{Partner, Passed, other_end, passed}
 
--- a node before the join that does what is asked, and behind which nothing blocks it
+-- on the path b stands a node that does what is asked, and no node behind it there blocks it
 pub record SameBefore (P : Type 0) (over : ℕ → List ℕ) (doesX : Ask P → ℕ → Bool)
     (ask : Ask P → Bool) (b : List ℕ) : Type 0 where
   pub node : ℕ
@@ -45,13 +45,15 @@ pub data Stop (P : Type 0) (Walk : List ℕ → Type 0) (does : Ask P → ℕ �
   at_firm : (on : List ℕ) → Walk (on ++ p) → IsLoose firm on p → (f : ℕ) (fq : List ℕ)
       → on ++ p ≡ f ∷ fq
       → firm f
-      ≡ true → Clash P (λ q. doesZ q k) (λ q. does q f) → Stop P Walk does firm overZ doesZ p k zrest
+      ≡ true → Clash P (λ q. doesZ q k) (λ q. does q f)
+      → Stop P Walk does firm overZ doesZ p k zrest
   at_assignment : (on : List ℕ) → Walk (on ++ p) → IsLoose firm on p → (g : ℕ) (grest : List ℕ)
       → IsEndOf (g ∷ grest) (flat_map overZ (on ++ p)) → IsEndOf (k ∷ zrest) grest
       → Clash P (λ q. doesZ q k) (λ q. doesZ q g)
       → Stop P Walk does firm overZ doesZ p k zrest
   at_join : (s : ℕ) (on : List ℕ) → Walk (s ∷ (on ++ p)) → IsLoose firm (s ∷ on) p
-      → ((g : ℕ) (grest : List ℕ) → IsEndOf (g ∷ grest) (flat_map overZ (on ++ p)) → IsEndOf (k ∷ zrest) grest → Clash P (λ q. doesZ q k) (λ q. doesZ q g) → ⊥)
+      → ((g : ℕ) (grest : List ℕ) → IsEndOf (g ∷ grest) (flat_map overZ (on ++ p))
+      → IsEndOf (k ∷ zrest) grest → Clash P (λ q. doesZ q k) (λ q. doesZ q g) → ⊥)
       → (((b : List ℕ) → Walk (s ∷ b) → (SameBefore P overZ doesZ (λ q. doesZ q k) b → ⊥) → ⊥) → ⊥)
       → Stop P Walk does firm overZ doesZ p k zrest
 

@@ -11,11 +11,13 @@ pub data Clash (P : Type 0) (one other : Ask P → Bool) : Type 0 where
   set_read : (y : ℕ) → one (Sets y) ≡ true → other (Reads y) ≡ true → Clash P one other
   read_set : (y : ℕ) → one (Reads y) ≡ true → other (Sets y) ≡ true → Clash P one other
 
+-- it does not matter which of the two is named first
 pub clash_back : (P : Type 0) (one other : Ask P → Bool) → Clash P one other → Clash P other one
 clash_back P one other (both_set y p q) = both_set y q p
 clash_back P one other (set_read y p q) = read_set y q p
 clash_back P one other (read_set y p q) = set_read y q p
 
+-- what does the same clashes with the same
 pub clash_alike : (P : Type 0) (one other one' other' : Ask P → Bool) → ((q : Ask P) → one' q ≡ one q)
     → ((q : Ask P) → other' q ≡ other q) → Clash P one other → Clash P one' other'
 clash_alike P one other one' other' f g (both_set y p q) = both_set y (f (Sets y) ∙ p) (g (Sets y) ∙ q)

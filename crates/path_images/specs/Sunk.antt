@@ -20,6 +20,7 @@ pub data IsNear (so : ℕ → Bool) (part : List ℕ) : Type 0 where
       → IsNear so part
   near_behind : ((l : List ℕ) → latest so (part ++ l) ≡ latest so l) → IsNear so part
 
+-- it is one of the two in each part
 pub is_near : (so : ℕ → Bool) (part : List ℕ) → IsNear so part
 is_near so [] = near_behind (λ l. refl)
 is_near so (n ∷ part) = elim (cases_Bool (so n)) [

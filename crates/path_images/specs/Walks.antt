@@ -22,6 +22,7 @@ pub record Place (over : ℕ → List ℕ) (end path : List ℕ) : Type 0 where
   pub at : IsEndOf end (flat_map over (node ∷ before))
   pub placed : IsPlaced over end (node ∷ before)
 
+-- what stands over a path stands at some place of it
 pub place_of : (over : ℕ → List ℕ) (k : ℕ) (rest path : List ℕ) → IsEndOf (k ∷ rest) (flat_map over path) → Place over (k ∷ rest) path
 place_of over k rest [] at = absurd (none at.0 at.1)
   where
@@ -47,6 +48,7 @@ pub record Oldest (l : List ℕ) : Type 0 where
   pub node : ℕ
   pub is : l ≡ front ++ (node ∷ [])
 
+-- a list that is not empty has an oldest node
 pub oldest : (n : ℕ) (l : List ℕ) → Oldest (n ∷ l)
 oldest n [] = record { front = []; node = n; is = refl }
 oldest n (m ∷ l) = let r = oldest m l in record { front = n ∷ r.front; node = r.node; is = ap (λ q. n ∷ q) r.is }
@@ -57,6 +59,7 @@ pub data Meeting (firm : ℕ → Bool) (on f p : List ℕ) : Type 0 where
   beyond : (more : List ℕ) → on ++ p ≡ more ++ (f ++ p) → IsLoose firm more (f ++ p)
       → Meeting firm on f p
 
+-- two ways one after the other, without firm nodes, are one way without firm nodes
 pub loose_append : (firm : ℕ → Bool) (b a p : List ℕ) → IsLoose firm b (a ++ p) → IsLoose firm a p → IsLoose firm (b ++ a) p
 loose_append firm [] a p l m = m
 loose_append firm (n ∷ b) a p l m = (λ k before e. l.0 k before (sym (append_assoc b a p) ∙ e), loose_append firm b a p l.1 m)

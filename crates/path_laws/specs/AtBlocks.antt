@@ -44,7 +44,8 @@ abbrev pub AreBornAtEnds : List Node → List (List ℕ) → ℕ → (ℕ → �
     → List (List Bool) → Type 0
 AreBornAtEnds nodes lists bits born stop rows = (c b last : ℕ) (list : List ℕ) → b < bits
     → slice_get lists c ≡ Some list → Ends last list
-    → (has_bit rows b c ≡ true) ↔ ((s : ℕ) × HasEdge nodes last s × BornAhead nodes (born b) (stop b) s)
+    → (has_bit rows b c ≡ true)
+    ↔ ((s : ℕ) × HasEdge nodes last s × BornAhead nodes (born b) (stop b) s)
 
 -- ---- over edges
 

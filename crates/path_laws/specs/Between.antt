@@ -39,7 +39,8 @@ count_at way n (edge ∷ edges) = (if nat_eq (end_at way edge) n then 1 else 0) 
 -- and how many from the blocks below this number
 abbrev pub out_below : Bool → List (List ℕ) → List Edge → ℕ → ℕ
 out_below way lists edges zero = 0
-out_below way lists edges (suc b) = out_below way lists edges b + count_at way (ahead_of way (list_at lists b)) edges
+out_below way lists edges (suc b) =
+    out_below way lists edges b + count_at way (ahead_of way (list_at lists b)) edges
 
 -- and so it is of the block of this number
 pub record IsAheadOf (against : Bool) (lists : List (List ℕ)) (b n : ℕ) : Type 0 where
@@ -88,7 +89,8 @@ pub record AreBetween (against : Bool) (nodes : List Node) (lists : List (List �
 
 -- the edges that leave all blocks
 abbrev pub AreBlockEdges : Bool → List Node → List (List ℕ) → BlockEdges → Type 0
-AreBlockEdges against nodes lists made = AreBetween against nodes lists (length lists) made.edges.items made.firsts.items
+AreBlockEdges against nodes lists made =
+    AreBetween against nodes lists (length lists) made.edges.items made.firsts.items
 
 -- to a list of edges those are added that leave this block, whose last node in the order of the flow is `from`
 abbrev pub AddsOut : Bool → GraphShape → BlocksShape → ℕ → ℕ → List Edge → List Edge → Type 0

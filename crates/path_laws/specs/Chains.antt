@@ -13,10 +13,15 @@ IsRun steps (p ∷ []) = Unit {0}
 IsRun steps (p ∷ q ∷ path) = steps q p × ((k : ℕ) → steps q k → k ≡ p) × IsRun steps (q ∷ path)
 
 -- the nodes of each block in the order of the flow, and the edges between blocks
-pub record AreRuns (nodes count : ℕ) (steps : ℕ → ℕ → Type 0) (paths : ℕ → List ℕ) (between : ℕ → ℕ → Type 0) : Type 0 where
+pub record AreRuns (nodes count : ℕ) (steps : ℕ → ℕ → Type 0) (paths : ℕ → List ℕ)
+    (between : ℕ → ℕ → Type 0) : Type 0 where
   pub runs : (c : ℕ) → c < count → IsRun steps (paths c)
-  pub sound : (c d : ℕ) → between c d → (c < count) × (d < count) × ((m : ℕ) × (k : ℕ) × (i : ℕ) × (slice_get (paths c) 0 ≡ Some m) × (slice_get (paths d) i ≡ Some k) × (suc i ≡ length (paths d)) × steps m k)
-  pub complete : (c m k : ℕ) → c < count → slice_get (paths c) 0 ≡ Some m → steps m k → (d : ℕ) × (i : ℕ) × between c d × (slice_get (paths d) i ≡ Some k) × (suc i ≡ length (paths d))
+  pub sound : (c d : ℕ) → between c d → (c < count) × (d < count)
+      × ((m : ℕ) × (k : ℕ) × (i : ℕ) × (slice_get (paths c) 0 ≡ Some m)
+      × (slice_get (paths d) i ≡ Some k) × (suc i ≡ length (paths d)) × steps m k)
+  pub complete : (c m k : ℕ) → c < count → slice_get (paths c) 0 ≡ Some m → steps m k
+      → (d : ℕ) × (i : ℕ) × between c d × (slice_get (paths d) i ≡ Some k)
+      × (suc i ≡ length (paths d))
 
 module _ (steps : ℕ → ℕ → Type 0) (seed bar : ℕ → Bool) where
   abbrev Led : ℕ → Type 0

@@ -19,7 +19,8 @@ ends_with n (m ∷ k ∷ list) = ends_with n (k ∷ list)
 
 -- whether an edge leads from the last node of a block to the first of one
 abbrev pub crosses : List (List ℕ) → Edge → Bool
-crosses lists edge = list_any (ends_with edge.source) lists && list_any (begins_with edge.target) lists
+crosses lists edge =
+    list_any (ends_with edge.source) lists && list_any (begins_with edge.target) lists
 
 -- how many of these edges do
 abbrev pub crossings : List (List ℕ) → List Edge → ℕ

@@ -21,7 +21,8 @@ use Rattle.path_laws.specs.RowMarks.{AllMarked, AreMarksFor, NoneMarked, caught_
 -- the edges are in order of their sources, and the rows of seeds and of stops have one shape: one row for each block, so
 -- many bits
 abbrev pub IsBlockFlow : BlockEdges → List (List Bool) → List (List Bool) → ℕ → Type 0
-IsBlockFlow between seeds stops bits = IsListedFlow (length seeds) between.edges.items between.firsts.items bits seeds stops
+IsBlockFlow between seeds stops bits =
+    IsListedFlow (length seeds) between.edges.items between.firsts.items bits seeds stops
 
 -- the rows of the seeds
 abbrev pub seed_rows : Seeds → List (List Bool)
@@ -37,7 +38,8 @@ HasSeed (OfRows rows) block = block < length rows.now
 -- the edges between so many blocks are in order of their sources, each block has seeds, and the rows have one shape
 pub record IsSeeded (count : ℕ) (between : BlockEdges) (seeds : Seeds) (stops : List (List Bool))
     (bits : ℕ) : Type 0 where
-  pub listed : IsListedFlow count between.edges.items between.firsts.items bits (seed_rows seeds) stops
+  pub listed : IsListedFlow count between.edges.items between.firsts.items bits
+      (seed_rows seeds) stops
   pub seeds_are : (block : ℕ) → block < count → HasSeed seeds block
 
 -- and so it is of a flow
@@ -46,7 +48,8 @@ IsInOrder f = IsSeeded f.count f.between.now f.seeds f.stops.now f.bits
 
 -- the flow as the solver sees it
 abbrev pub net_of : {L : Type 0} → BitFlow L → Net (List Bool)
-net_of f = bit_flow f.count f.between.now.edges.items (number_at f.between.now.firsts.items) f.bits (seed_rows f.seeds) f.stops.now
+net_of f = bit_flow f.count f.between.now.edges.items (number_at f.between.now.firsts.items) f.bits
+    (seed_rows f.seeds) f.stops.now
 
 -- what is not news has been taken along an edge
 abbrev pub caught_in : {L : Type 0} → BitFlow L → ℕ → List Bool → List Bool → List Bool → Type 0

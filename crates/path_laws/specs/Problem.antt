@@ -47,7 +47,9 @@ row_after p = passed_row p.every p.against p.graph.now.nodes p.born.now p.stop.n
 
 -- the row of which the seeds of a node are made: what it stops, where what is stopped is seeded, and else what is born
 abbrev pub begun_row : Problem → ℕ → List Bool
-begun_row p n = cond p.every (cond (is_end p.against p.graph.now.nodes n) (row_of p.born.now n) (row_of p.stop.now n)) (row_of p.born.now n)
+begun_row p n = cond p.every
+    (cond (is_end p.against p.graph.now.nodes n) (row_of p.born.now n) (row_of p.stop.now n))
+    (row_of p.born.now n)
 
 -- the row that leaves these nodes, one after the other, where this one comes to the first
 abbrev pub row_through : Problem → List ℕ → List Bool → List Bool
@@ -56,7 +58,8 @@ row_through p (n ∷ path) row = row_through p path (row_after p n row)
 
 -- what comes out of each block where nothing comes to it
 abbrev pub block_seeds : Problem → List (List Bool)
-block_seeds p = map (λ list. row_through p (flow_order p.against list) (replicate p.bits false)) p.blocks.now.lists
+block_seeds p = map
+    (λ list. row_through p (flow_order p.against list) (replicate p.bits false)) p.blocks.now.lists
 
 -- ---- rows
 
@@ -75,7 +78,9 @@ HaveBarred p count rows = AreBarredByPaths count p.bits (orders p) (is_barred p)
 -- these rows say to which blocks each bit comes over these edges from a block that seeds it
 abbrev pub AreLed : Problem → List Edge → List (List Bool) → Type 0
 AreLed p edges rows = (c b : ℕ) → c < length p.blocks.now.lists → b < p.bits
-    → (has_bit rows b c ≡ true) ↔ Leads (StepAlong edges) (λ k. passed_all (is_seed p b) (is_barred p b) false (orders p k)) (λ k. list_any (is_barred p b) (orders p k)) c
+    → (has_bit rows b c ≡ true)
+    ↔ Leads (StepAlong edges) (λ k. passed_all (is_seed p b) (is_barred p b) false (orders p k))
+    (λ k. list_any (is_barred p b) (orders p k)) c
 
 -- rows of nodes as the answers begin
 pub record AreInitial (p : Problem) (rows : List (List Bool)) : Type 0 where
@@ -106,24 +111,29 @@ abbrev pub TakesIn : Problem → Edge → List (List Bool) → List (List Bool) 
     → Type 0
 TakesIn p edge work rows after = (n : ℕ) × (slice_get (orders p edge.target) 0 ≡ Some n)
     × (n < length p.graph.now.nodes)
-    × Joined p.bits rows after n (λ b. brought p.against (is_barred p b) n (has_bit work b edge.source))
+    × Joined p.bits rows after n
+    (λ b. brought p.against (is_barred p b) n (has_bit work b edge.source))
 
 -- what the row of a node brings to that of the next of its block is joined to that one
 abbrev pub HandsOn : Problem → ℕ → ℕ → List (List Bool) → List (List Bool) → Type 0
-HandsOn p before n rows after = Joined p.bits rows after n (λ b. handed_on p.against (is_seed p b) (is_barred p b) before n (has_bit rows b before))
+HandsOn p before n rows after = Joined p.bits rows after n
+    (λ b. handed_on p.against (is_seed p b) (is_barred p b) before n (has_bit rows b before))
 
 -- what came to a node and it does not bar, and what it seeds, is joined to the row of the next of its block
 abbrev pub HandsAlong : Problem → ℕ → ℕ → List (List Bool) → List (List Bool) → Type 0
-HandsAlong p before n rows after = Joined p.bits rows after n (λ b. is_seed p b before || (has_bit rows b before && not (is_barred p b before)))
+HandsAlong p before n rows after = Joined p.bits rows after n
+    (λ b. is_seed p b before || (has_bit rows b before && not (is_barred p b before)))
 
 -- the rows of all nodes are answers
 pub record HaveAnswers (p : Problem) (rows : List (List Bool)) : Type 0 where
   pub shape : HaveShape p.graph.now p.bits rows
-  pub are : Tell p.graph.now p.bits rows (λ b n. HasAnswer p.against p.graph.now.nodes (is_seed p b) (is_barred p b) n)
+  pub are : Tell p.graph.now p.bits rows
+      (λ b n. HasAnswer p.against p.graph.now.nodes (is_seed p b) (is_barred p b) n)
 
 -- the rows of all nodes are answers, for as many bits as the rows of births have
 abbrev pub AreSolved : Problem → List (List Bool) → Type 0
-AreSolved p rows = Tell p.graph.now (width p.born.now) rows (λ b n. HasAnswer p.against p.graph.now.nodes (is_seed p b) (is_barred p b) n)
+AreSolved p rows = Tell p.graph.now (width p.born.now) rows
+    (λ b n. HasAnswer p.against p.graph.now.nodes (is_seed p b) (is_barred p b) n)
 
 -- ---- edges between blocks, and pushes along them
 
@@ -134,7 +144,8 @@ HasBetween p made = AreBlockEdges p.against p.graph.now.nodes p.blocks.now.lists
 -- this list has all edges between the blocks of the problem, in order of their sources
 abbrev pub AreAllBetween : Problem → List Edge → Type 0
 AreAllBetween p edges = (firsts : List ℕ)
-    × AreBetween p.against p.graph.now.nodes p.blocks.now.lists (length p.blocks.now.lists) edges firsts
+    × AreBetween p.against p.graph.now.nodes p.blocks.now.lists
+    (length p.blocks.now.lists) edges firsts
 
 -- by how much the counter may rise by pushes along these edges
 abbrev pub room_along : Problem → BlockEdges → ℕ

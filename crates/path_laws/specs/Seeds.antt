@@ -17,17 +17,20 @@ is_end false nodes n = nat_eq n 0
 
 -- all bits at such a node, and else those that the node stops
 abbrev pub ending_row : Bool → List Node → List Bool → ℕ → List Bool
-ending_row against nodes stop n = if is_end against nodes n then replicate (length stop) true else stop
+ending_row against nodes stop n =
+    if is_end against nodes n then replicate (length stop) true else stop
 
 -- the seeds of a node: for every path the bits whose paths may end there, without those born there, and else those born
 abbrev pub seed_row : Bool → Bool → List Node → List (List Bool) → List (List Bool) → ℕ → List Bool
-seed_row true against nodes born stop n = minus_bits (ending_row against nodes (row_of stop n) n) (row_of born n)
+seed_row true against nodes born stop n =
+    minus_bits (ending_row against nodes (row_of stop n) n) (row_of born n)
 seed_row false against nodes born stop n = row_of born n
 
 -- the seeds of all nodes
 abbrev pub seeds_of : Bool → Bool → List Node → List (List Bool) → List (List Bool)
     → List (List Bool)
-seeds_of true against nodes born stop = map (seed_row true against nodes born stop) (range_with_len 0 (length nodes))
+seeds_of true against nodes born stop =
+    map (seed_row true against nodes born stop) (range_with_len 0 (length nodes))
 seeds_of false against nodes born stop = born
 
 -- what bars a bit: for every path a birth, and else a stop
@@ -59,5 +62,7 @@ pub record IsPathProblem (nodes : List Node) (edges : EdgesShape) (blocks : Bloc
 -- a row after a node: its seeds, and what came that it does not bar
 abbrev pub passed_row : Bool → Bool → List Node → List (List Bool) → List (List Bool) → ℕ
     → List Bool → List Bool
-passed_row true against nodes born stop n row = if is_end against nodes n then not_bits (row_of born n) else minus_bits (or_bits row (row_of stop n)) (row_of born n)
-passed_row false against nodes born stop n row = or_bits (minus_bits row (row_of stop n)) (row_of born n)
+passed_row true against nodes born stop n row = if is_end against nodes n
+    then not_bits (row_of born n) else minus_bits (or_bits row (row_of stop n)) (row_of born n)
+passed_row false against nodes born stop n row =
+    or_bits (minus_bits row (row_of stop n)) (row_of born n)

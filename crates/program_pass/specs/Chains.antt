@@ -9,4 +9,5 @@ use Rattle.graph_edit.specs.Insertions.{Insertion, chain, entry_among}
 abbrev pub stood : List Node → ℕ → List Insertion → ℕ → List Node
 stood nodes n [] end = slice_set nodes n (Skip end)
 stood nodes n (put ∷ puts) end =
-    slice_set nodes n (Assign put.var put.rhs (entry_among end (length nodes) puts)) ++ chain end (length nodes) puts
+    slice_set nodes n (Assign put.var put.rhs (entry_among end (length nodes) puts))
+    ++ chain end (length nodes) puts

@@ -12,7 +12,8 @@ shared_in (graph ∷ graphs) = graph.shared
 
 -- the graph, or one with no nodes where there is none, which has so many globals
 abbrev pub graph_or_empty : ℕ → Option GraphShape → GraphShape
-graph_or_empty shared None = record { name = []; shared = shared; vars = []; received = []; nodes = [] }
+graph_or_empty shared
+    None = record { name = []; shared = shared; vars = []; received = []; nodes = [] }
 graph_or_empty shared (Some graph) = graph
 
 -- the graph of the unit of this number
@@ -37,8 +38,10 @@ ShareGlobals graphs = (u : ℕ) → u < length graphs
 pub record IsGraphProgram (graphs : List GraphShape) : Type 0 where
   pub some : 0 < length graphs
   pub are : (u : ℕ) → u < length graphs
-      → CanMake (graph_numbered graphs u).vars (graph_numbered graphs u).received (graph_numbered graphs u).nodes
+      → CanMake (graph_numbered graphs u).vars (graph_numbered graphs u).received
+      (graph_numbered graphs u).nodes
   pub shares : (u : ℕ) → u < length graphs
-      → SharesVars (graph_numbered graphs u).shared (graph_numbered graphs u).vars (graph_numbered graphs u).received
+      → SharesVars (graph_numbered graphs u).shared (graph_numbered graphs u).vars
+      (graph_numbered graphs u).received
   pub globals : ShareGlobals graphs
   pub calls : (u : ℕ) → u < length graphs → GraphCallsFit graphs (graph_numbered graphs u)

@@ -14,7 +14,7 @@ abbrev all_marks : {A : Type 0} → List A → List Bool
 all_marks [] = []
 all_marks (x ∷ xs) = true ∷ all_marks xs
 
--- they are as many
+-- there is one mark for each entry
 all_marks_long : {A : Type 0} → (xs : List A) → length (all_marks xs) ≡ length xs
 all_marks_long [] = refl
 all_marks_long (x ∷ xs) = ap suc (all_marks_long xs)

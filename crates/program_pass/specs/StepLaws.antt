@@ -16,13 +16,25 @@ pub record OneStepEach (codes : ℕ → Code) (shared : ℕ) (R : StackRelation)
   -- frames that agree in one unit, over related callers, are related
   pub related : (u : ℕ) (f g : Frame) (ps qs : List Caller) → Exists u → Frames u f g
       → Callers ps qs
-      → R 0 (record { unit = u; frame = f; callers = ps }) (record { unit = u; frame = g; callers = qs })
+      → R 0 (record { unit = u; frame = f; callers = ps })
+      (record { unit = u; frame = g; callers = qs })
   -- frames that a call enters, over callers that go on from frames that agree, are related
-  pub called : (u called : ℕ) (entry : CallEntry) (into : Option ℕ) (f g : Frame) (ps qs : List Caller)
+  pub called : (u called : ℕ) (entry : CallEntry) (into : Option ℕ) (f g : Frame)
+      (ps qs : List Caller)
       → Exists u
       → Exists called → Frames u f g → Callers ps qs
-      → R 0 (record { unit = called; frame = first_frame entry; callers = record { unit = u; into = into; frame = f } ∷ ps }) (record { unit = called; frame = first_frame entry; callers = record { unit = u; into = into; frame = g } ∷ qs })
-  -- an answer that the first side hands back, with so many globals, leads to where the two are abreast
+      → R 0 (record {
+        unit = called;
+        frame = first_frame entry;
+        callers = record { unit = u; into = into; frame = f } ∷ ps;
+      })
+      (record {
+        unit = called;
+        frame = first_frame entry;
+        callers = record { unit = u; into = into; frame = g } ∷ qs;
+      })
+  -- an answer that the first side hands back, with so many globals, leads to where the two are
+  -- abreast
   pub answered : (answer : Answer) (ps qs : List Caller) → length answer.globals ≡ shared
       → Callers ps qs
       → (k : ℕ) × (to : Control) × StepsLead codes k (returned answer ps) to [] 0 0

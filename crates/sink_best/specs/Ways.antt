@@ -24,7 +24,8 @@ with_way (Some (Return a)) slot ways = slot ∷ ways
 abbrev pub ways_on : (nodes : List Node) (n : ℕ) (before : List ℕ) → Trace nodes n before → List ℕ
     → List ℕ
 ways_on nodes n before from_start ways = ways
-ways_on nodes n before (goes_on m k earlier trace edge) ways = ways_on nodes m earlier trace (with_way (slice_get nodes m) edge.0 ways)
+ways_on nodes n before (goes_on m k earlier trace edge) ways =
+    ways_on nodes m earlier trace (with_way (slice_get nodes m) edge.0 ways)
 
 -- at a node that is not firm no way is taken
 pub loose_way : (o : Option Node) (slot : ℕ) (ways : List ℕ) → is_firm o ≡ false → with_way o slot ways ≡ ways

@@ -64,7 +64,8 @@ abbrev pub GrowsAfter : List (Option ℕ) → (root n : ℕ) → Node → (old n
 GrowsAfter numbers root n node old new = (shared nodes : ℕ) (terms : Terms) → root < nodes
     → n < nodes
     → Represent old numbers root terms
-    → GainsEntries (length numbers) nodes (IsTermOf new (length numbers) (node_terms shared n node terms)) old new
+    → GainsEntries (length numbers) nodes
+    (IsTermOf new (length numbers) (node_terms shared n node terms)) old new
 
 -- what was found at node n, where the numbers stood for the terms before it: the holder of its term, and numbers that
 -- stand for the terms after it, but for the globals. A Start changes none
@@ -89,7 +90,8 @@ restored (Visit n root ∷ steps) numbers = restored steps numbers
 restored (Restore v old ∷ steps) numbers = slice_set (restored steps numbers) v old
 
 -- these numbers stand for the terms before node n
-pub record IsReady (shared : ℕ) (nodes : List Node) (table : List TermKey) (numbers : List (Option ℕ))
+pub record IsReady (shared : ℕ) (nodes : List Node) (table : List TermKey)
+    (numbers : List (Option ℕ))
     (n root : ℕ) : Type 0 where
   pub within : n < length nodes
   pub before : List ℕ
@@ -99,7 +101,8 @@ pub record IsReady (shared : ℕ) (nodes : List Node) (table : List TermKey) (nu
 -- when a node is visited, the numbers stand for the terms before it
 abbrev pub AreReady : ℕ → List Node → List TermKey → List (Option ℕ) → List Step → Type 0
 AreReady shared nodes table numbers [] = Unit {0}
-AreReady shared nodes table numbers (Visit n root ∷ steps) = IsReady shared nodes table (restored steps numbers) n root
+AreReady shared nodes table numbers (Visit n root ∷ steps) =
+    IsReady shared nodes table (restored steps numbers) n root
     × AreReady shared nodes table numbers steps
 AreReady shared nodes table numbers (Restore v old ∷ steps) = (v < length numbers)
     × AreReady shared nodes table numbers steps
@@ -135,7 +138,8 @@ pub record IsVisited (graph : GraphShape) (listed : List Bool) (holders : List (
   pub succs : (s : ℕ) → HasEdge graph.nodes n s → slice_get listed s ≡ Some true
 
 -- a listed node is to be visited, or is the one at hand, or has been visited
-pub record IsUnderWay (graph : GraphShape) (table : List TermKey) (numbers : List (Option ℕ)) (listed : List Bool)
+pub record IsUnderWay (graph : GraphShape) (table : List TermKey) (numbers : List (Option ℕ))
+    (listed : List Bool)
     (steps : List Step) (holders : List (Option ℕ)) (at_hand : Option ℕ) : Type 0 where
   pub numbers_long : length numbers ≡ length graph.vars
   pub listed_long : length listed ≡ length graph.nodes
@@ -150,7 +154,8 @@ pub record IsUnderWay (graph : GraphShape) (table : List TermKey) (numbers : Lis
 
 -- the same of the walk in the code, with these steps
 abbrev pub GoesOver : GraphShape → Walk → List Step → Type 0
-GoesOver graph walk steps = IsUnderWay graph walk.table walk.numbers walk.listed.items steps walk.holders.items None
+GoesOver graph walk steps =
+    IsUnderWay graph walk.table walk.numbers walk.listed.items steps walk.holders.items None
 
 -- ---- listing successors
 
@@ -186,7 +191,8 @@ weight_left shared listed steps = (shared + 3) * unmarked listed + steps_weight 
 
 -- the numbers and the steps became these, where at most so many changes were made: as many steps as that were put on,
 -- and where all are taken, each node is visited with the numbers with which it would have been before
-pub record Undoes (count : ℕ) (numbers : List (Option ℕ)) (steps : List Step) (numbers' : List (Option ℕ))
+pub record Undoes (count : ℕ) (numbers : List (Option ℕ)) (steps : List Step)
+    (numbers' : List (Option ℕ))
     (steps' : List Step) : Type 0 where
   pub long : length numbers' ≡ length numbers
   pub ready : (shared : ℕ) (nodes : List Node) (table : List TermKey)
@@ -222,7 +228,8 @@ pub record Renews (n count : ℕ) (old new : List TermKey) (numbers numbers' : L
       → GainsEntries (length numbers) nodes (IsLeafBelow new n count) old new
 
 -- the same of the globals after node n, which is this one
-pub record RenewsGlobals (shared n : ℕ) (node : Node) (old new : List TermKey) (numbers numbers' : List (Option ℕ))
+pub record RenewsGlobals (shared n : ℕ) (node : Node) (old new : List TermKey)
+    (numbers numbers' : List (Option ℕ))
     (steps steps' : List Step) : Type 0 where
   pub stay : Stay old new
   pub undoes : Undoes shared numbers steps numbers' steps'
@@ -230,11 +237,13 @@ pub record RenewsGlobals (shared n : ℕ) (node : Node) (old new : List TermKey)
       → Represent new numbers' root (with_globals shared n node terms)
   pub all : AllStand old → AllStand new
   pub grows : (nodes : ℕ) (terms : Terms) → n < nodes
-      → GainsEntries (length numbers) nodes (IsTermOf new (length numbers) (with_globals shared n node terms)) old new
+      → GainsEntries (length numbers) nodes
+      (IsTermOf new (length numbers) (with_globals shared n node terms)) old new
 
 -- node n was passed: its holder is known, and where the numbers stood for the terms before it, they stand for those
 -- after it. A Start leaves them
-pub record Passes (shared root n : ℕ) (node : Node) (old new : List TermKey) (numbers numbers' : List (Option ℕ))
+pub record Passes (shared root n : ℕ) (node : Node) (old new : List TermKey)
+    (numbers numbers' : List (Option ℕ))
     (steps steps' : List Step) (holder : Option ℕ) : Type 0 where
   pub stay : Stay old new
   pub undoes : Undoes (suc shared) numbers steps numbers' steps'
@@ -247,7 +256,8 @@ pub record Passes (shared root n : ℕ) (node : Node) (old new : List TermKey) (
   pub all : StandOn old numbers root new
   pub grows : (nodes : ℕ) (terms : Terms) → root < nodes → n < nodes
       → Represent old numbers root terms
-      → GainsEntries (length numbers) nodes (IsTermOf new (length numbers) (node_terms shared n node terms)) old new
+      → GainsEntries (length numbers) nodes
+      (IsTermOf new (length numbers) (node_terms shared n node terms)) old new
 
 -- ---- all nodes
 
