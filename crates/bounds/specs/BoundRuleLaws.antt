@@ -1,5 +1,5 @@
 -- The rules of bounds are lawful. Cited by the ghost members of their `impl`.
-use Rattle.std.proofs.Common.{◌≡◌, ℕ, ℤ, ◌≤◌, pos, negsuc, Bool, true, false, if◌then◌else◌, not, ◌&&◌, List, ◌++◌, length, length-set, refl, sym, ap, ◌∙◌, subst, arith, int_lt, int_le, unsigned_abs, bit_and, w64, FitsSigned, to_z, of_z, to_z-of_z}
+use Rattle.std.proofs.Common.{◌≡◌, ℕ, ℤ, ◌≤◌, pos, negsuc, Bool, true, false, if◌then◌else◌, not, ◌&&◌, List, ◌++◌, refl, sym, ap, ◌∙◌, subst, arith, int_lt, int_le, unsigned_abs, bit_and, w64, FitsSigned, to_z, of_z, to_z-of_z}
 use Rattle.std.specs.Prelude.{◌≤ℤ◌, ◌<ℤ◌}
 use Rattle.std.specs.Ordering.{int_eq}
 use Rattle.std.proofs.lemmas.Int.{ints, clamps, int_wrap_fits, SFits-int_wrap}
@@ -29,8 +29,9 @@ use Rattle.bounds.specs.Facts.{BelowFact, Bounds, high_of, low_of}
 use Rattle.bounds.specs.FactLaws.{below_refl, below_trans, below_antisym, below_rises, rank_bound, fact_joins}
 use Rattle.bounds.specs.EndLaws.{below_low, below_high, value_fits}
 use Rattle.bounds.specs.RoundingLaws.{le_trans}
-use Rattle.bounds.specs.Edges.{AreBounds, comparison, where_is, with_fact, fact_at, fact_of, fact_of_rhs}
+use Rattle.bounds.specs.Edges.{AreBounds, comparison, where_is, fact_at, fact_of, fact_of_rhs}
 use Rattle.bounds.specs.EdgeLaws.{along_holds, along_mono, may_go_mono, rhs_holds, rhs_mono}
+use Rattle.bounds.specs.ReadingLaws.{frame_rules, length_with}
 use Rattle.bounds.specs.UseLaws.{and_keeps, max_keeps, min_keeps, mod_keeps}
 use Rattle.cond_flow.specs.Rules.{AreHeld, BecomesRhs, LawfulRules, OrderRules, RewritingRules, RisingRules, SoundRules}
 use Rattle.bounds.specs.BoundRules.{bound_rules, bounded_operand, bounded_rhs, copied, gives_first, gives_second, has_ones, has_zero, is_truth, is_zero, may_vanish, number_of, number_or}
@@ -48,12 +49,7 @@ order_rules = record {
   joins = fact_joins;
 }
 
--- with the fact of an operand there are as many facts
-length_with : (a : Operand) (k : Fact) (facts : List Fact) → length (with_fact a k facts) ≡ length facts
-length_with (Var x) k facts = length-set facts x k
-length_with (Const c) k facts = refl
-
--- they rise
+-- the rules rise: the surer what is known of the operands, the surer what they say
 rising_rules : RisingRules BelowFact bound_rules
 rising_rules = record {
   right_side = rhs_mono;
@@ -132,19 +128,19 @@ number_zero z h =
     found : (z : ℤ) → int_le z (pos 0) ≡ true → int_le (pos 0) z ≡ true → int_eq z (pos 0) ≡ true
     found z p q = grind (arith, ints)
 
--- tests of order
+-- where a is found to be at most b, it is
 le_is : (a b : ℤ) → int_le a b ≡ true → a ≤ℤ b
 le_is a b h = grind (arith, ints)
 
--- below
+-- where a is found to be less than b, it is
 lt_is : (a b : ℤ) → int_lt a b ≡ true → a <ℤ b
 lt_is a b h = grind (arith, ints)
 
--- equal
+-- where a is found to be equal to b, it is
 eq_is : (a b : ℤ) → int_eq a b ≡ true → a ≡ b
 eq_is a b h = grind (arith, ints)
 
--- above
+-- where a is not found to be at most b, b is less than a
 above_is : (a b : ℤ) → int_le a b ≡ false → b <ℤ a
 above_is a b h = grind (arith, ints)
 
@@ -241,7 +237,7 @@ first_keeps Xor x y a b e fits fits' p q = cc
 min_turned : (a b : ℤ) → value_of_op Min a b ≡ value_of_op Min b a
 min_turned a b = omega (arith, ints, clamps)
 
--- the greater
+-- and so is the greater
 max_turned : (a b : ℤ) → value_of_op Max a b ≡ value_of_op Max b a
 max_turned a b = omega (arith, ints, clamps)
 
@@ -280,7 +276,7 @@ stays values rhs = record { traps = refl; value = refl; count = omega arith }
 followed : (values : Values) (r s t : Rhs) → BecomesRhs values r s → BecomesRhs values s t → BecomesRhs values r t
 followed values r s t one two = record { traps = two.traps ∙ one.traps; value = two.value ∙ one.value; count = omega (arith, one.count, two.count) }
 
--- a number in the place of a right side that has it and does not trap
+-- a right side that does not trap may become the number that it is known to be
 number_same : (values : Values) (k : Fact) (rhs rhs' : Rhs) → rhs_traps values rhs ≡ false → Bounds k (rhs_value values rhs)
     → BecomesRhs values rhs rhs' → BecomesRhs values rhs (number_of k rhs')
 number_same values Never rhs rhs' safe h same = same
@@ -353,7 +349,7 @@ rhs_same facts values (Binary op a b) h fits = cases (is_dividing op && has_zero
 
 -- ---- variables
 
--- of an operand
+-- what an operand becomes has no variables but those that it had
 operand_below : (n : ℕ) (facts : List Fact) (a : Operand) → AllBelow n (operand_vars a)
     → AllBelow n (operand_vars (bounded_operand facts a))
 operand_below n facts (Const c) low = tt
@@ -364,20 +360,20 @@ operand_below n facts (Var x) low = cases (fact_at facts x)
     cases (Fixed c) = tt
     cases (Between e f) = low
 
--- of a number in the place of a right side
+-- nor has what a right side becomes by the number that it may be known to be
 number_below : (n : ℕ) (k : Fact) (rhs : Rhs) → AllBelow n (rhs_vars rhs) → AllBelow n (rhs_vars (number_of k rhs))
 number_below n Never rhs low = low
 number_below n (Fixed c) rhs low = tt
 number_below n (Between e f) rhs low = low
 
--- of a copy
+-- nor has a copy of an operand
 copied_below : (n : ℕ) (a b : Operand) (op : Op) (c d : Bool) → AllBelow n (operand_vars a ++ operand_vars b)
     → AllBelow n (rhs_vars (if c then Plain a else if d then Plain b else Binary op a b))
 copied_below n a b op true d low = all_below_left n (operand_vars a) (operand_vars b) low
 copied_below n a b op false true low = all_below_right n (operand_vars a) (operand_vars b) low
 copied_below n a b op false false low = low
 
--- of a right side
+-- nor has what a right side becomes
 right_side_below : (n : ℕ) (facts : List Fact) (rhs : Rhs) → AllBelow n (rhs_vars rhs)
     → AllBelow n (rhs_vars (bounded_rhs facts rhs))
 right_side_below n facts (Plain a) low = operand_below n facts a low
@@ -433,4 +429,10 @@ rewriting_rules = record {
 
 -- all laws
 pub bound_laws : LawfulRules BelowFact Bounds bound_rules
-bound_laws = record { order = order_rules; rising = rising_rules; sound = sound_rules; rewriting = rewriting_rules }
+bound_laws = record {
+  order = order_rules;
+  rising = rising_rules;
+  sound = sound_rules;
+  rewriting = rewriting_rules;
+  frame = frame_rules;
+}

@@ -46,7 +46,8 @@ is_number (Between e f) z = false
 -- the first is not negative, and the second is one number, which has all bits of the high end of the first
 abbrev pub has_ones : Fact → Fact → Bool
 has_ones (Between e f) (Fixed m) =
-    int_le (pos 0) (end_value e) && is_number (bounds_of And (Fixed m) (Fixed (end_value f))) (end_value f)
+    int_le (pos 0) (end_value e)
+    && is_number (bounds_of And (Fixed m) (Fixed (end_value f))) (end_value f)
 has_ones (Between e f) Never = false
 has_ones (Between e f) (Between g h) = false
 has_ones Never y = false
@@ -82,7 +83,8 @@ gives_second _ x y = false
 
 -- an operator on two operands of which these facts hold: a copy of the operand that it gives
 abbrev pub copied : Op → Operand → Operand → Fact → Fact → Rhs
-copied op a b x y = if gives_first op x y then Plain a else if gives_second op x y then Plain b else Binary op a b
+copied op a b x y =
+    if gives_first op x y then Plain a else if gives_second op x y then Plain b else Binary op a b
 
 -- the number that a right side is known to be, in the place of the right side
 abbrev pub number_of : Fact → Rhs → Rhs
@@ -98,9 +100,11 @@ bounded_binary op a b x y result =
 -- what a right side becomes: its number, or a copy of an operand, and else its operands are replaced
 abbrev pub bounded_rhs : List Fact → Rhs → Rhs
 bounded_rhs facts (Plain a) = Plain (bounded_operand facts a)
-bounded_rhs facts (Unary op a) = number_of (fact_of_rhs facts (Unary op a)) (Unary op (bounded_operand facts a))
+bounded_rhs facts (Unary op a) =
+    number_of (fact_of_rhs facts (Unary op a)) (Unary op (bounded_operand facts a))
 bounded_rhs facts (Binary op a b) =
-    bounded_binary op (bounded_operand facts a) (bounded_operand facts b) (fact_of facts a) (fact_of facts b)
+    bounded_binary op (bounded_operand facts a) (bounded_operand facts b)
+    (fact_of facts a) (fact_of facts b)
     (fact_of_rhs facts (Binary op a b))
 
 -- ---- the rules

@@ -75,7 +75,7 @@ abbrev pub natural : ℤ → ℕ
 natural (pos n) = n
 natural (negsuc n) = 0
 
--- no distance of the span wraps
+-- whether all numbers of the span are from 0 to 63: as distances of shifts they do not wrap
 abbrev pub are_distances : Span → Bool
 are_distances s = int_le (pos 0) s.low && int_le s.high (pos 63)
 
@@ -120,7 +120,7 @@ span_mod s t =
     else if is_positive t
     then span (int_min (pos 0) (pos 1 -ℤ t.high)) (t.high -ℤ pos 1) else all
 
--- shifts to the left
+-- the span of a shift to the left
 abbrev pub span_shl : Span → Span → Span
 span_shl s t = if are_distances t then scaled s (2 ^ natural t.high) else all
 
@@ -142,7 +142,7 @@ span_shra_by s k =
 abbrev pub span_shra : Span → Span → Span
 span_shra s t = if are_distances t then span_shra_by s (first_distance t) else span_shra_by s 0
 
--- `and` where an operand is natural
+-- the span of `and`: from 0 to an operand that is not negative, or to the lesser of two such
 abbrev pub span_and : Span → Span → Span
 span_and s t =
     if is_natural s then span (pos 0) (if is_natural t then int_min s.high t.high else s.high)

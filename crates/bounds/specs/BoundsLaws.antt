@@ -105,7 +105,7 @@ fixed_mono op a b x' y' p q = cases (traps op (wrapped b))
         rounded_below _ (span_op op (span_of x') (span_of y')) fits
         (spanned_holds op x' y' (wrapped a) (wrapped b) (wrapped_fits a) (wrapped_fits b) left right)
 
--- the fact of a result
+-- the surer the facts of the operands, the surer that of the result
 pub bounds_mono : (op : Op) (x x' y y' : Fact) → BelowFact x x' → BelowFact y y'
     → BelowFact (bounds_of op x y) (bounds_of op x' y')
 bounds_mono op Never x' y y' p q = tt

@@ -64,7 +64,7 @@ index_small Max32 = omega arith
 index_small MaxU32 = omega arith
 index_small Greatest = omega arith
 
--- at the place of an end it stands
+-- the end that has the place of an end is this end
 end_back : (e : End) → end_at (index e) ≡ e
 end_back Least = refl
 end_back Min32 = refl

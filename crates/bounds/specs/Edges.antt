@@ -76,7 +76,8 @@ with_fact (Const c) fact facts = facts
 abbrev pub facts_where : Comparison → List Fact → List Fact
 facts_where c facts =
     with_fact c.left (narrowed c.op (fact_of facts c.left) (fact_of facts c.right))
-    (with_fact c.right (narrowed (turned c.op) (fact_of facts c.right) (fact_of facts c.left)) facts)
+    (with_fact c.right (narrowed (turned c.op) (fact_of facts c.right) (fact_of facts c.left))
+    facts)
 
 -- the test may have this truth value
 abbrev pub may_go : tests.Test → Bool → List Fact → Bool

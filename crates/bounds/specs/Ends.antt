@@ -40,12 +40,14 @@ end_value Greatest = pos 9223372036854775807
 -- all but the least, from the greatest on
 abbrev pub descending : List End
 descending =
-    Greatest ∷ MaxU32 ∷ Max32 ∷ MaxU16 ∷ Max16 ∷ MaxU8 ∷ Max8 ∷ One ∷ Zero ∷ MinusOne ∷ Min8 ∷ Min16 ∷ Min32 ∷ []
+    Greatest ∷ MaxU32 ∷ Max32 ∷ MaxU16 ∷ Max16 ∷ MaxU8 ∷ Max8 ∷ One ∷ Zero ∷ MinusOne ∷ Min8 ∷ Min16
+    ∷ Min32 ∷ []
 
 -- all but the greatest, from the least on
 abbrev pub ascending : List End
 ascending =
-    Least ∷ Min32 ∷ Min16 ∷ Min8 ∷ MinusOne ∷ Zero ∷ One ∷ Max8 ∷ MaxU8 ∷ Max16 ∷ MaxU16 ∷ Max32 ∷ MaxU32 ∷ []
+    Least ∷ Min32 ∷ Min16 ∷ Min8 ∷ MinusOne ∷ Zero ∷ One ∷ Max8 ∷ MaxU8 ∷ Max16 ∷ MaxU16 ∷ Max32
+    ∷ MaxU32 ∷ []
 
 -- the first of these ends that is at most z, or the least
 unfoldable pub floor_in : List End → ℤ → End

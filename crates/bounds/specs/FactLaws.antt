@@ -67,11 +67,11 @@ pub record IsUpper (e f m : End) : Type 0 where
   pub right : index f ≤ index m
   pub either : (n : ℕ) → index e ≤ n → index f ≤ n → index m ≤ n
 
--- numbers that are not at most are above
+-- where a is not found to be at most b, b is at most a
 above : (a b : ℕ) → nat_le a b ≡ false → b ≤ a
 above a b h = grind arith
 
--- and those that are
+-- and where it is found so, it is
 at_most : (a b : ℕ) → nat_le a b ≡ true → a ≤ b
 at_most a b h = grind arith
 

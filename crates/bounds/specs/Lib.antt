@@ -14,5 +14,6 @@ pub mod UseLaws
 pub mod EdgeLaws
 pub mod NonemptyLaws
 pub mod BoundRules
+pub mod ReadingLaws
 pub mod BoundRuleLaws
 pub mod Coding

@@ -38,7 +38,7 @@ span_where Le s t = span (end_value Least) t.high
 span_where Gt s t = span (t.low +ℤ pos 1) (end_value Greatest)
 span_where Ge s t = span t.low (end_value Greatest)
 
--- the numbers of both spans
+-- the span of the numbers that lie in both
 abbrev pub meet : Span → Span → Span
 meet s t = span (int_max s.low t.low) (int_min s.high t.high)
 

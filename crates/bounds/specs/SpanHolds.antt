@@ -396,7 +396,7 @@ span_holds And s t a b p q f g v w = and_holds s t a b f g v w
 span_holds Or s t a b p q f g v w = or_holds bit_or s t a b or_lt p q f g v w
 span_holds Xor s t a b p q f g v w = or_holds bit_xor s t a b xor_lt p q f g v w
 
--- and each on one number
+-- and so does each operator of one operand
 pub span_un_holds : (op : UnOp) (s : Span) (a : ℤ) → In s a → InIfFits (span_un_op op s) (value_of_un_op op a)
 span_un_holds Neg s a v = exact _ _ (record { low = omega (arith, ints, v.high); high = omega (arith, ints, v.low) })
 span_un_holds Not s a v =

@@ -233,7 +233,7 @@ shra_high (negsuc a) (negsuc b) j k p q = omega (arith, ints, clamps)
 pub shra_by_mono : (s s' : Span) (j k : ℕ) → Within s s' → k ≤ j → Within (span_shra_by s j) (span_shra_by s' k)
 shra_by_mono s s' j k v le = record { low = shra_low _ _ k j v.low le; high = shra_high _ _ j k v.high le }
 
--- shifts to the right of numbers with a sign
+-- the span of a shift to the right with a sign rises with those of its operands
 shra_mono : (s s' t t' : Span) → Within s s' → Within t t' → WithinIfFits (span_shra s t) (span_shra s' t')
 shra_mono s s' t t' v w = cases _ refl _ refl
   where
@@ -301,7 +301,7 @@ and_mono s s' t t' v w =
     }))
     (λ k. lies _ _ (record { low = omega (arith, ints); high = w.high }))
 
--- `or` and `xor`
+-- and so does that of `or` and `xor`
 or_mono : (s s' t t' : Span) → s'.high ≤ℤ end_value Greatest → t'.high ≤ℤ end_value Greatest → Within s s' → Within t t'
     → WithinIfFits (span_or s t) (span_or s' t')
 or_mono s s' t t' small small' v w =
@@ -313,11 +313,11 @@ or_mono s s' t t' small small' v w =
       high = value_mono _ _ (ceiling_mono _ _ least greater);
     }))
 
--- tests of order stay
+-- where one number is found less than another, each lesser one is found less than each greater one
 pub lt_stays : (a a' b b' : ℤ) → a ≤ℤ a' → b' ≤ℤ b → int_lt a' b' ≡ true → int_lt a b ≡ true
 lt_stays a a' b b' p q h = grind (arith, ints)
 
--- tests of at most too
+-- and so with "at most" in the place of "less"
 pub le_stays : (a a' b b' : ℤ) → a ≤ℤ a' → b' ≤ℤ b → int_le a' b' ≡ true → int_le a b ≡ true
 le_stays a a' b b' p q h =
     let m : a' ≤ℤ b' = le_is _ _ h in is_le a b (omega (arith, ints, p, q, m))

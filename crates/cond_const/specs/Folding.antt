@@ -59,10 +59,13 @@ abbrev pub folded_binary : Op → Operand → Operand → Rhs
 folded_binary op (Const a) (Const b) =
     if traps op (wrapped b) then Binary op (Const a) (Const b) else Plain
     (Const (value_of_op op (wrapped a) (wrapped b)))
-folded_binary op (Var x) (Const b) = by_identity (identity_right op (wrapped b)) (Var x) (Binary op (Var x) (Const b))
-folded_binary op (Const a) (Var y) = by_identity (identity_left op (wrapped a)) (Var y) (Binary op (Const a) (Var y))
+folded_binary op (Var x) (Const b) =
+    by_identity (identity_right op (wrapped b)) (Var x) (Binary op (Var x) (Const b))
+folded_binary op (Const a) (Var y) =
+    by_identity (identity_left op (wrapped a)) (Var y) (Binary op (Const a) (Var y))
 folded_binary op (Var x) (Var y) =
-    if nat_eq x y then by_identity (identity_same op) (Var x) (Binary op (Var x) (Var y)) else Binary op (Var x) (Var y)
+    if nat_eq x y then by_identity (identity_same op) (Var x) (Binary op (Var x) (Var y))
+    else Binary op (Var x) (Var y)
 
 -- what a right side becomes whose variables are all varying
 abbrev pub folded : Rhs → Rhs

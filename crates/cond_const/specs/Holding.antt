@@ -33,5 +33,6 @@ StatesHold graph = (states : ℕ → NodeState) → HasLeastStates graph states 
 -- wherever a run of the graph comes to this node, its values agree with what is known before the node; no run comes
 -- there where that is None
 abbrev pub HoldsBefore : GraphShape → ℕ → Option (List Known) → Type 0
-HoldsBefore graph node known = (frame : Frame) → IsRunFrame (machine_of graph) frame → frame.place ≡ node
+HoldsBefore graph node known =
+    (frame : Frame) → IsRunFrame (machine_of graph) frame → frame.place ≡ node
     → HoldsAt (state_of_known (length graph.vars) known) frame.values

@@ -42,7 +42,8 @@ identity_right Add c = where_equal c (pos 0) Itself Absent
 identity_right Sub c = where_equal c (pos 0) Itself Absent
 identity_right Mul c = where_equal c (pos 0) (Always (pos 0)) (where_equal c (pos 1) Itself Absent)
 identity_right Div c = where_equal c (pos 1) Itself Absent
-identity_right Mod c = where_equal c (pos 1) (Always (pos 0)) (where_equal c (negsuc 0) (Always (pos 0)) Absent)
+identity_right Mod c =
+    where_equal c (pos 1) (Always (pos 0)) (where_equal c (negsuc 0) (Always (pos 0)) Absent)
 identity_right Shl c = if shifts_nowhere c then Itself else Absent
 identity_right Shr c = if shifts_nowhere c then Itself else Absent
 identity_right Shra c = if shifts_nowhere c then Itself else Absent

@@ -27,7 +27,7 @@ at_number c d rule other P here there = cases (int_eq c d) refl
     cases true is = subst (P rule) (sym (int_eq_is c d is)) here
     cases false is = there
 
--- division by 1 and -1 leaves no remainder
+-- a number whose absolute value is below 1 is 0
 none_left : (z : ℤ) → unsigned_abs z < 1 → z ≡ pos 0
 none_left (pos zero) h = refl
 none_left (pos (suc n)) h = absurd (omega (arith, h))

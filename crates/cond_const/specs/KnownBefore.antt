@@ -22,9 +22,11 @@ IsKnownBefore graph node known = IsKnownBy BelowKnown fold_rules graph node know
 
 -- and nothing else
 abbrev pub IsOnlyKnownBefore : GraphShape → ℕ → Option (List Known) → Type 0
-IsOnlyKnownBefore graph node known = (other : Option (List Known)) → IsKnownBefore graph node other → other ≡ known
+IsOnlyKnownBefore graph node known =
+    (other : Option (List Known)) → IsKnownBefore graph node other → other ≡ known
 
 -- of each of these nodes, by their numbers, the least states of the graph say this
 abbrev pub AreKnownBefore : {A : Type 0} → GraphShape → List (Option (Vec Known A)) → Type 0
-AreKnownBefore {A = A} graph all = (n : ℕ) (known : Option (Vec Known A)) → slice_get all n ≡ Some known
+AreKnownBefore {A = A} graph all =
+    (n : ℕ) (known : Option (Vec Known A)) → slice_get all n ≡ Some known
     → IsKnownBefore graph n (option_map (λ list. list.items) known)

@@ -9,5 +9,6 @@ pub mod RelationLaws
 pub mod OrderLaws
 pub mod RisingLaws
 pub mod SoundLaws
+pub mod ReadingLaws
 pub mod RewritingLaws
 pub mod FoldLaws

@@ -21,6 +21,7 @@ use Rattle.cond_const.specs.Folding.{decoded_known, number_of, known_at, resolve
 use Rattle.cond_const.specs.RelationLaws.{int_eq_is}
 use Rattle.cond_const.specs.OrderLaws.{order_rules}
 use Rattle.cond_const.specs.RisingLaws.{rising_rules}
+use Rattle.cond_const.specs.ReadingLaws.{frame_rules}
 use Rattle.cond_const.specs.SoundLaws.{resolved_value, rhs_folds, sound_rules}
 
 -- ---- variables
@@ -131,4 +132,4 @@ rewriting_rules = record {
 
 -- all laws
 pub fold_laws : LawfulRules BelowKnown HasValue fold_rules
-fold_laws = record { order = order_rules; rising = rising_rules; sound = sound_rules; rewriting = rewriting_rules }
+fold_laws = record { order = order_rules; rising = rising_rules; sound = sound_rules; rewriting = rewriting_rules; frame = frame_rules }

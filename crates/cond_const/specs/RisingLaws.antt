@@ -241,7 +241,7 @@ relation_mono op xs ys (Var x) (Var y) p = cases (nat_eq x y) refl
         relation_apart op x y is (known_at xs x) (known_at ys x) (known_at xs y) (known_at ys y) (below_at xs ys x p)
         (below_at xs ys y p)
 
--- tests of one operand
+-- whether a test `if a` is decided rises with what is known of a
 holds_mono : (x : ℕ) (k k' : Known) → BelowKnown k k'
     → Firmer (decided (Holds (resolved_as k x))) (decided (Holds (resolved_as k' x)))
 unfolding Firmer

@@ -16,7 +16,7 @@ BelowKnown (Fixed a) (Fixed b) = a ≡ b
 BelowKnown Varying (Fixed b) = ⊥
 BelowKnown k Varying = Unit {0}
 
--- 1 for "varying"
+-- 1 for "varying" and 0 for a constant: the rank of what is known
 abbrev pub is_varying : Known → ℕ
 is_varying (Fixed a) = 0
 is_varying Varying = 1

@@ -57,12 +57,12 @@ module _ {K : Type 0} {below : K → K → Type 0} {rules : Rules K} (order : Or
     none_along None slot n = refl
     none_along (Some node) slot n = laws.unreached node slot n
 
-    -- nor through several
+    -- nothing passes through a list of nodes that is not reached
     none_through : (nodes : List Node) (list : List ℕ) (n : ℕ) → through_nodes along nodes list (Unreached n) ≡ Unreached n
     none_through nodes [] n = refl
     none_through nodes (m ∷ list) n = ap (through_nodes along nodes list) (none_along (slice_get nodes m) 0 n) ∙ none_through nodes list n
 
-    -- nor from a block
+    -- nor out of a block that is not
     none_out : (nodes : List Node) (list : List ℕ) (slot n : ℕ) → out_of along nodes list slot (Unreached n) ≡ Unreached n
     none_out nodes list slot n =
         ap (along_at along (slice_get nodes (last_of list)) slot) (none_through nodes (take (length list - 1) list) n) ∙ none_along (slice_get nodes (last_of list)) slot n

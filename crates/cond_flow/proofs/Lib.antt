@@ -9,3 +9,7 @@ pub mod Sound
 pub mod Runs
 pub mod Shapes
 pub mod Whole
+pub mod ReadingLaws
+pub mod RaisingLaws
+pub mod TakingLaws
+pub mod PushLaws

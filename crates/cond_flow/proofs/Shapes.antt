@@ -72,7 +72,7 @@ module _ {K : Type 0} (rules : Rules K) where
   at_back (Unreached n) node slot s e = (slot, e)
   at_back (Knows ks) node slot s e = let one = node_back ks node slot s e in (one.0, one.1)
 
-  -- the edges of a Test that pass the state
+  -- an edge of a Test along which the state passes is an edge of what the Test becomes
   test_on : (test : tests.Test) (taken other : ℕ) (p q : Bool) (slot s : ℕ) → slice_get (taken ∷ other ∷ []) slot ≡ Some s → passes_by slot p q ≡ true → (slot' : ℕ) × (slice_get (node_succs (decided_node test taken other p q)) slot' ≡ Some s)
   test_on test taken other true true slot s e passing = (slot, e)
   test_on test taken other true false zero s e passing = (0, e)

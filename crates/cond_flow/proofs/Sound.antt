@@ -48,7 +48,7 @@ module _ {K : Type 0} {below : K → K → Type 0} {holds : K → ℤ → Type 0
   holds_up (Knows xs) (Unreached m) values p h = absurd p
   holds_up (Knows xs) (Knows ys) values p h = record { each = λ x. sound.up _ _ (values x) (below_at order rising xs ys x p) (h.each x) }
 
-  -- after one variable is set
+  -- what holds of all variables still does once one has a value and what is known to hold of that
   pub held_set : (ks : List K) (values : Values) (x : ℕ) (k : K) (v : ℤ) → AreHeld holds rules ks values → FitsSigned w64 v → holds k v → AreHeld holds rules (slice_set ks x k) (with_value x v values)
   held_set ks values x k v held fits known = record { each = λ y. cases y (nat_eq y x) refl }
     where

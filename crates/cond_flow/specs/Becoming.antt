@@ -35,9 +35,11 @@ node_becomes rules known (Assign x rhs next) = Assign x (rules.rhs known rhs) ne
 node_becomes rules known (Print a next) = Print (rules.operand known a) next
 node_becomes rules known (Guard test number next) =
     guarded_node (test_becomes rules known test) number next (rules.goes test true known)
-node_becomes rules known (Call into unit operands next) = Call into unit (map (rules.operand known) operands) next
+node_becomes rules known (Call into unit operands next) =
+    Call into unit (map (rules.operand known) operands) next
 node_becomes rules known (Test test taken other) =
-    decided_node (test_becomes rules known test) taken other (rules.goes test true known) (rules.goes test false known)
+    decided_node (test_becomes rules known test) taken other (rules.goes test true known)
+    (rules.goes test false known)
 node_becomes rules known (Return a) = Return (rules.operand known a)
 
 -- a node that is not reached stays as it is; it is dropped afterwards
@@ -48,7 +50,8 @@ becomes_at rules (Knows known) node = node_becomes rules known node
 -- the nodes from number n on
 abbrev pub become_from : {K : Type 0} → Rules K → ℕ → (ℕ → NodeState K) → List Node → List Node
 become_from rules n states [] = []
-become_from rules n states (node ∷ nodes) = becomes_at rules (states n) node ∷ become_from rules (suc n) states nodes
+become_from rules n states (node ∷ nodes) =
+    becomes_at rules (states n) node ∷ become_from rules (suc n) states nodes
 
 -- what the nodes become
 abbrev pub nodes_become : {K : Type 0} → Rules K → (ℕ → NodeState K) → List Node → List Node

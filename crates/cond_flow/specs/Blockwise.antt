@@ -34,7 +34,8 @@ along_at along (Some node) slot s = along node slot s
 -- what passes through these nodes, one after the other
 abbrev pub through_nodes : {K : Type 0} → Along K → List Node → List ℕ → NodeState K → NodeState K
 through_nodes along nodes [] s = s
-through_nodes along nodes (n ∷ list) s = through_nodes along nodes list (along_at along (slice_get nodes n) 0 s)
+through_nodes along nodes (n ∷ list) s =
+    through_nodes along nodes list (along_at along (slice_get nodes n) 0 s)
 
 -- the last of these nodes
 abbrev pub last_of : List ℕ → ℕ
@@ -43,7 +44,8 @@ last_of list = slice_index_or list (length list - 1) 0
 -- what passes from the first of these nodes along the edge at this slot of the last
 abbrev pub out_of : {K : Type 0} → Along K → List Node → List ℕ → ℕ → NodeState K → NodeState K
 out_of along nodes list slot s =
-    along_at along (slice_get nodes (last_of list)) slot (through_nodes along nodes (take (length list - 1) list) s)
+    along_at along (slice_get nodes (last_of list)) slot
+    (through_nodes along nodes (take (length list - 1) list) s)
 
 -- the nodes of the block of this number
 abbrev pub block_at : List (List ℕ) → ℕ → List ℕ
@@ -52,12 +54,14 @@ block_at = list_at
 -- ---- the flow
 
 -- the block to which the edge at this slot of a node leads, or any where there is no such edge
-pub record IsTargetOf (nodes : List Node) (lists : List (List ℕ)) (node slot target : ℕ) : Type 0 where
+pub record IsTargetOf (nodes : List Node) (lists : List (List ℕ))
+    (node slot target : ℕ) : Type 0 where
   pub within : target < length lists
   pub leads : (s : ℕ) → IsEdge nodes node slot s → StandsIn lists target s
 
 -- the same for the first edges, those of the blocks below this number: two for each block
-pub record AreTargetsBelow (nodes : List Node) (lists : List (List ℕ)) (below : ℕ) (targets : List ℕ) : Type 0 where
+pub record AreTargetsBelow (nodes : List Node) (lists : List (List ℕ)) (below : ℕ)
+    (targets : List ℕ) : Type 0 where
   pub long : length targets ≡ 2 * below
   pub each : (e : ℕ) → e < 2 * below
       → IsTargetOf nodes lists (last_of (block_at lists (e / 2))) (e % 2) (number_at targets e)
@@ -68,7 +72,8 @@ AreTargets nodes lists targets = AreTargetsBelow nodes lists (length lists) targ
 
 -- these are the blocks, the number of the block of Start, and for each slot of the last node of each block the number
 -- of the block to which its edge leads
-pub record IsStateNet (nodes : List Node) (lists : List (List ℕ)) (entry : ℕ) (targets : List ℕ) : Type 0 where
+pub record IsStateNet (nodes : List Node) (lists : List (List ℕ)) (entry : ℕ)
+    (targets : List ℕ) : Type 0 where
   pub blocks : IsBlocks nodes lists
   pub entry_is : StandsIn lists entry 0
   pub targets_are : AreTargets nodes lists targets
@@ -90,7 +95,8 @@ state_net height along zeros nodes lists entry targets = record {
 }
 
 -- the flow of a graph and its blocks
-abbrev pub net_in : {K : Type 0} → Rules K → GraphShape → BlocksShape → ℕ → List ℕ → Net (NodeState K)
+abbrev pub net_in : {K : Type 0} → Rules K → GraphShape → BlocksShape → ℕ → List ℕ
+    → Net (NodeState K)
 net_in rules graph blocks entry targets =
     state_net rules.height (passed_along rules graph.shared graph.received)
     (first_known rules graph.shared (length graph.vars)) graph.nodes blocks.lists entry targets

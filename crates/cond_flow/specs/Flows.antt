@@ -9,7 +9,8 @@ use Rattle.cond_flow.specs.Passing.{first_known}
 use Rattle.cond_flow.specs.Blockwise.{IsStateNet, net_in}
 
 -- its parts fit together
-pub record IsStateFlow {K : Type 0} {L : Type 0} (rules : Rules K) (f : StateFlow K L) : Type 0 where
+pub record IsStateFlow {K : Type 0} {L : Type 0} (rules : Rules K)
+    (f : StateFlow K L) : Type 0 where
   pub blocks : AreBlocksOf f.graph.now.nodes f.blocks.now
   pub is_net : IsStateNet f.graph.now.nodes f.blocks.now.lists f.entry f.targets.now
   pub zeros : f.zeros.now ≡ first_known rules f.graph.now.shared (length f.graph.now.vars)

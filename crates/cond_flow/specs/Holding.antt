@@ -15,17 +15,22 @@ HoldsAt holds rules (Unreached size) values = ⊥
 HoldsAt holds rules (Knows known) values = AreHeld holds rules known values
 
 -- wherever a run of the graph comes to a node, its values agree with the node's state
-abbrev pub HoldInRuns : {K : Type 0} → (K → ℤ → Type 0) → Rules K → GraphShape → (ℕ → NodeState K) → Type 0
+abbrev pub HoldInRuns : {K : Type 0} → (K → ℤ → Type 0) → Rules K → GraphShape → (ℕ → NodeState K)
+    → Type 0
 HoldInRuns holds rules graph states = (frame : Frame) → IsRunFrame (machine_of graph) frame
     → HoldsAt holds rules (states frame.place) frame.values
 
 -- so it is of the least states of the graph
-abbrev pub StatesHold : {K : Type 0} → (K → K → Type 0) → (K → ℤ → Type 0) → Rules K → GraphShape → Type 0
-StatesHold {K = K} below holds rules graph = (states : ℕ → NodeState K) → HasLeastStates below rules graph states
+abbrev pub StatesHold : {K : Type 0} → (K → K → Type 0) → (K → ℤ → Type 0) → Rules K → GraphShape
+    → Type 0
+StatesHold {K = K} below holds rules graph =
+    (states : ℕ → NodeState K) → HasLeastStates below rules graph states
     → HoldInRuns holds rules graph states
 
 -- wherever a run of the graph comes to this node, its values agree with what is known before the node; no run comes
 -- there where that is None
-abbrev pub HoldsBefore : {K : Type 0} → (K → ℤ → Type 0) → Rules K → GraphShape → ℕ → Option (List K) → Type 0
-HoldsBefore holds rules graph node known = (frame : Frame) → IsRunFrame (machine_of graph) frame → frame.place ≡ node
+abbrev pub HoldsBefore : {K : Type 0} → (K → ℤ → Type 0) → Rules K → GraphShape → ℕ
+    → Option (List K) → Type 0
+HoldsBefore holds rules graph node known =
+    (frame : Frame) → IsRunFrame (machine_of graph) frame → frame.place ≡ node
     → HoldsAt holds rules (state_of_known (length graph.vars) known) frame.values

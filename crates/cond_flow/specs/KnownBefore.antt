@@ -30,14 +30,16 @@ state_of_known size None = Unreached size
 state_of_known size (Some known) = Knows known
 
 -- the least states of the graph say this of the node; so a list has one entry for each variable
-pub record IsKnownBefore {K : Type 0} (below : K → K → Type 0) (rules : Rules K) (graph : GraphShape) (node : ℕ)
+pub record IsKnownBefore {K : Type 0} (below : K → K → Type 0) (rules : Rules K)
+    (graph : GraphShape) (node : ℕ)
     (known : Option (List K)) : Type 0 where
   pub states : ℕ → NodeState K
   pub least : HasLeastStates below rules graph states
   pub here : states node ≡ state_of_known (length graph.vars) known
 
 -- and nothing else
-abbrev pub IsOnlyKnownBefore : {K : Type 0} → (K → K → Type 0) → Rules K → GraphShape → ℕ → Option (List K) → Type 0
+abbrev pub IsOnlyKnownBefore : {K : Type 0} → (K → K → Type 0) → Rules K → GraphShape → ℕ
+    → Option (List K) → Type 0
 IsOnlyKnownBefore {K = K} below rules graph node known = (other : Option (List K))
     → IsKnownBefore below rules graph node other → other ≡ known
 
@@ -46,10 +48,13 @@ pub record PassesTo {K : Type 0} (rules : Rules K) (graph : GraphShape) (list : 
     (s t : NodeState K) : Type 0 where
   pub place : ℕ
   pub stands : slice_get list place ≡ Some node
-  pub passes : t ≡ through_nodes (passed_along rules graph.shared graph.received) graph.nodes (take place list) s
+  pub passes : t
+      ≡ through_nodes (passed_along rules graph.shared graph.received)
+      graph.nodes (take place list) s
 
 -- of each of these nodes, by their numbers, the least states of the graph say this
 abbrev pub AreKnownBefore : {K : Type 0} → {A : Type 0} → (K → K → Type 0) → Rules K → GraphShape
     → List (Option (Vec K A)) → Type 0
-AreKnownBefore {K = K} {A = A} below rules graph all = (n : ℕ) (known : Option (Vec K A)) → slice_get all n ≡ Some known
+AreKnownBefore {K = K} {A = A} below rules graph all =
+    (n : ℕ) (known : Option (Vec K A)) → slice_get all n ≡ Some known
     → IsKnownBefore below rules graph n (option_map (λ list. list.items) known)

@@ -15,3 +15,9 @@ pub mod StateLaws
 pub mod PassingLaws
 pub mod FlowLaws
 pub mod BecomingLaws
+pub mod NewsShapes
+pub mod Raising
+pub mod Reading
+pub mod Catching
+pub mod Caught
+pub mod SetLaws

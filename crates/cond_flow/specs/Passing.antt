@@ -22,17 +22,22 @@ start_known rules shared received size = all_set rules.top received (first_known
 -- after a call the globals and its variable may be anything
 abbrev pub after_call : {K : Type 0} → Rules K → ℕ → Option ℕ → List K → List K
 after_call rules shared None known = all_set rules.top (shared_vars shared) known
-after_call rules shared (Some x) known = slice_set (all_set rules.top (shared_vars shared) known) x rules.top
+after_call rules shared (Some x) known =
+    slice_set (all_set rules.top (shared_vars shared) known) x rules.top
 
 -- what is known after a node, along the edge at this slot
 abbrev pub known_after : {K : Type 0} → Rules K → ℕ → List ℕ → Node → ℕ → List K → List K
-known_after rules shared received (Start next) slot known = start_known rules shared received (length known)
+known_after rules shared received (Start next) slot known =
+    start_known rules shared received (length known)
 known_after rules shared received (Skip next) slot known = known
-known_after rules shared received (Assign x rhs next) slot known = slice_set known x (rules.of_rhs known rhs)
+known_after rules shared received (Assign x rhs next) slot known =
+    slice_set known x (rules.of_rhs known rhs)
 known_after rules shared received (Print a next) slot known = known
 known_after rules shared received (Guard test number next) slot known = known
-known_after rules shared received (Call into unit operands next) slot known = after_call rules shared into known
-known_after rules shared received (Test test taken other) slot known = rules.along test (nat_eq slot 0) known
+known_after rules shared received (Call into unit operands next) slot known =
+    after_call rules shared into known
+known_after rules shared received (Test test taken other) slot known =
+    rules.along test (nat_eq slot 0) known
 known_after rules shared received (Return a) slot known = known
 
 -- along the edge at this slot of a test, which it takes where it holds or where it does not
@@ -47,11 +52,13 @@ passes rules (Assign x rhs next) slot known = nat_eq slot 0
 passes rules (Print a next) slot known = nat_eq slot 0
 passes rules (Guard test number next) slot known = nat_eq slot 0
 passes rules (Call into unit operands next) slot known = nat_eq slot 0
-passes rules (Test test taken other) slot known = passes_by slot (rules.goes test true known) (rules.goes test false known)
+passes rules (Test test taken other) slot known =
+    passes_by slot (rules.goes test true known) (rules.goes test false known)
 passes rules (Return a) slot known = false
 
 -- what passes along the edge at this slot of a node
 abbrev pub passed_along : {K : Type 0} → Rules K → ℕ → List ℕ → Node → ℕ → NodeState K → NodeState K
 passed_along rules shared received node slot (Unreached size) = Unreached size
 passed_along rules shared received node slot (Knows known) =
-    if passes rules node slot known then Knows (known_after rules shared received node slot known) else Unreached (length known)
+    if passes rules node slot known then Knows (known_after rules shared received node slot known)
+    else Unreached (length known)

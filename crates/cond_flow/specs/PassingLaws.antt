@@ -88,7 +88,7 @@ module _ {K : Type 0} {below : K → K → Type 0} {rules : Rules K} (order : Or
   after_rises shared received (Return a) slot xs ys p = p
 
   -- it speaks of equally many variables
-  length_after : (shared : ℕ) (received : List ℕ) (node : Node) (slot : ℕ) (ks : List K)
+  pub length_after : (shared : ℕ) (received : List ℕ) (node : Node) (slot : ℕ) (ks : List K)
       → length (known_after rules shared received node slot ks) ≡ length ks
   length_after shared received (Start next) slot ks = length_start rules shared received (length ks)
   length_after shared received (Skip next) slot ks = refl

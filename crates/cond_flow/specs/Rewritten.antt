@@ -16,16 +16,21 @@ use Rattle.cond_flow.specs.Solutions.{HasLeastStates}
 
 -- the graph is made of what the nodes of the first become by its least states, and of these exactly those are kept
 -- whose state is reached
-pub record IsRewritten {K : Type 0} (below : K → K → Type 0) (rules : Rules K) (graph result : GraphShape) : Type 0 where
+pub record IsRewritten {K : Type 0} (below : K → K → Type 0) (rules : Rules K)
+    (graph result : GraphShape) : Type 0 where
   pub states : ℕ → NodeState K
   pub least : HasLeastStates below rules graph states
-  pub made : IsMade graph.name graph.shared graph.vars graph.received (nodes_become rules states graph.nodes) result
-  pub kept : (n : ℕ) → n < length graph.nodes → IsReachedNode (nodes_become rules states graph.nodes) n
+  pub made : IsMade graph.name graph.shared graph.vars graph.received
+      (nodes_become rules states graph.nodes) result
+  pub kept : (n : ℕ) → n < length graph.nodes
+      → IsReachedNode (nodes_become rules states graph.nodes) n
       ↔ (is_reached (states n) ≡ true)
 
 -- there is no other such graph
-abbrev pub IsOnlyRewritten : {K : Type 0} → (K → K → Type 0) → Rules K → GraphShape → GraphShape → Type 0
-IsOnlyRewritten below rules graph made = (other : GraphShape) → IsRewritten below rules graph other → other ≡ made
+abbrev pub IsOnlyRewritten : {K : Type 0} → (K → K → Type 0) → Rules K → GraphShape → GraphShape
+    → Type 0
+IsOnlyRewritten below rules graph made =
+    (other : GraphShape) → IsRewritten below rules graph other → other ≡ made
 
 -- node n assigns this right side to the variable x
 pub record AssignsAt (nodes : List Node) (n x : ℕ) (rhs : Rhs) : Type 0 where
@@ -35,7 +40,8 @@ pub record AssignsAt (nodes : List Node) (n x : ℕ) (rhs : Rhs) : Type 0 where
 -- each node that divides and is reached stands in the result at `place` of its number, in the old order: with the same
 -- variable and what its right side becomes by what is known there. Unless its divisor is known not to be 0 it divides
 -- still, with the same operator, and its operands are what they become
-pub record KeepsDivisions {K : Type 0} (below : K → K → Type 0) (rules : Rules K) (graph made : GraphShape) : Type 0 where
+pub record KeepsDivisions {K : Type 0} (below : K → K → Type 0) (rules : Rules K)
+    (graph made : GraphShape) : Type 0 where
   pub states : ℕ → NodeState K
   pub least : HasLeastStates below rules graph states
   pub place : ℕ → ℕ
@@ -43,7 +49,9 @@ pub record KeepsDivisions {K : Type 0} (below : K → K → Type 0) (rules : Rul
       → DividesOf graph.nodes n x op left right → states n ≡ Knows known
       → AssignsAt made.nodes (place n) x (rules.rhs known (Binary op left right))
   pub operator : (n x : ℕ) (op : Op) (left right : Operand) (known : List K)
-      → DividesOf graph.nodes n x op left right → states n ≡ Knows known → rules.may_vanish known right ≡ true
+      → DividesOf graph.nodes n x op left right → states n ≡ Knows known
+      → rules.may_vanish known right ≡ true
       → DividesOf made.nodes (place n) x op (rules.operand known left) (rules.operand known right)
-  pub in_order : (n m x y : ℕ) (op other : Op) → DividesAt graph.nodes n x op → DividesAt graph.nodes m y other
+  pub in_order : (n m x y : ℕ) (op other : Op) → DividesAt graph.nodes n x op
+      → DividesAt graph.nodes m y other
       → is_reached (states n) ≡ true → n < m → place n < place m

@@ -15,16 +15,21 @@ abbrev pub IsTold : {K : Type 0} → {A : Type 0} → NodeState K → Option (Ve
 IsTold s told = s ≡ state_of_known (size_of s) (option_map (λ list. list.items) told)
 
 -- what is told of node n is what its state says
-abbrev pub IsToldAt : {K : Type 0} → {A : Type 0} → (ℕ → NodeState K) → List (Option (Vec K A)) → ℕ → Type 0
-IsToldAt {K = K} {A = A} states all n = (told : Option (Vec K A)) → slice_get all n ≡ Some told → IsTold (states n) told
+abbrev pub IsToldAt : {K : Type 0} → {A : Type 0} → (ℕ → NodeState K) → List (Option (Vec K A)) → ℕ
+    → Type 0
+IsToldAt {K = K} {A = A} states all n =
+    (told : Option (Vec K A)) → slice_get all n ≡ Some told → IsTold (states n) told
 
 -- what the state says was put at node n
-abbrev pub IsToldOf : {K : Type 0} → {A : Type 0} → ℕ → NodeState K → (old new : List (Option (Vec K A))) → Type 0
-IsToldOf {K = K} {A = A} n s old new = (told : Option (Vec K A)) × IsTold s told × (new ≡ slice_set old n told)
+abbrev pub IsToldOf : {K : Type 0} → {A : Type 0} → ℕ → NodeState K
+    → (old new : List (Option (Vec K A))) → Type 0
+IsToldOf {K = K} {A = A} n s old new =
+    (told : Option (Vec K A)) × IsTold s told × (new ≡ slice_set old n told)
 
 -- of the first `count` of these nodes their states are told, which pass from the first, and so it is of those of which
 -- they were told before
-pub record TellsBlock {K : Type 0} {A : Type 0} (along : Along K) (nodes : List Node) (list : List ℕ) (s : NodeState K)
+pub record TellsBlock {K : Type 0} {A : Type 0} (along : Along K) (nodes : List Node)
+    (list : List ℕ) (s : NodeState K)
     (count : ℕ) (old new : List (Option (Vec K A))) : Type 0 where
   pub long : length new ≡ length old
   pub tells : (states : ℕ → NodeState K) → AreThrough along nodes list s states → (n : ℕ)
@@ -37,9 +42,11 @@ TellsIn rules graph list s count old new =
     TellsBlock (passed_along rules graph.shared graph.received) graph.nodes list s count old new
 
 -- so it is of the nodes of the blocks below this number
-pub record TellsBlocks {K : Type 0} {A : Type 0} (along : Along K) (nodes : List Node) (lists : List (List ℕ))
+pub record TellsBlocks {K : Type 0} {A : Type 0} (along : Along K) (nodes : List Node)
+    (lists : List (List ℕ))
     (values : List (NodeState K)) (below : ℕ) (all : List (Option (Vec K A))) : Type 0 where
   pub long : length all ≡ length nodes
   pub tells : (states : ℕ → NodeState K) → AreThroughBlocks along nodes lists values states
-      → (b i n : ℕ) (list : List ℕ) → b < below → slice_get lists b ≡ Some list → slice_get list i ≡ Some n
+      → (b i n : ℕ) (list : List ℕ) → b < below → slice_get lists b ≡ Some list
+      → slice_get list i ≡ Some n
       → IsToldAt states all n

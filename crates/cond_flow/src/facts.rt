@@ -1,9 +1,12 @@
 // What is known of each variable, as it is kept: in two lists, so that it takes little room and is joined in few steps.
-ghost use Rattle.std.specs.Prelude.{◌≡◌, ◌↔◌, ◌<◌, ◌≤◌, ℕ, ℤ, [], false, true, length, replicate, slice_index_or, slice_set, IfOk};
+ghost use Rattle.std.specs.Prelude.{◌≡◌, ◌↔◌, ◌<◌, ◌≤◌, ℕ, ℤ, [], ◌∷◌, false, true, length, replicate, slice_index_or, slice_set, IfOk};
 ghost use Rattle.cond_flow.specs.FactLists.{decoded_each};
 ghost use Rattle.cond_flow.specs.States.{joined_each};
+ghost use Rattle.cond_flow.specs.NewsShapes.{IsNotedIf};
+ghost use Rattle.cond_flow.specs.Raising.{IsRaised, KeepsRaised};
 
 use crate::Knowledge;
+use crate::news::StateNews;
 use mir_base::Memory;
 use smallvec::SmallVec;
 use std::alloc::Global;
@@ -172,6 +175,44 @@ impl<K: Knowledge> Facts<K> {
             other.numbers.as_slice(),
         )
     }
+
+    /// The same, and each variable of which more may be known then is put among the news.
+    pub(crate) fn join_noting(&mut self, other: &Facts<K>, news: &mut StateNews) -> bool
+        requires { length other.now ≡ length self.old }
+        ensures joined { self.new ≡ joined_each K.rules.joined self.old other.now }
+        ensures unchanged { (result ≡ false) ↔ (self.new ≡ self.old) }
+        ensures keeps { KeepsRaised K.rules news.old self.old news.new self.new }
+    {
+        join_noted::<K>(
+            self.kinds.as_mut_slice(),
+            self.numbers.as_mut_slice(),
+            other.kinds.as_slice(),
+            other.numbers.as_slice(),
+            news,
+        )
+    }
+
+    /// The same for these variables alone.
+    pub(crate) fn join_raised(
+        &mut self,
+        other: &Facts<K>,
+        raised: &[usize],
+        news: &mut StateNews,
+    ) -> bool
+        requires { length other.now ≡ length self.old }
+        ensures raised { IsRaised K.below K.rules raised.now other.now self.old self.new }
+        ensures unchanged { (result ≡ false) ↔ (self.new ≡ self.old) }
+        ensures keeps { KeepsRaised K.rules news.old self.old news.new self.new }
+    {
+        raise_lists::<K>(
+            self.kinds.as_mut_slice(),
+            self.numbers.as_mut_slice(),
+            other.kinds.as_slice(),
+            other.numbers.as_slice(),
+            raised,
+            news,
+        )
+    }
 }
 
 /// An empty list with room for so many items, made at once where they are not in the value itself.
@@ -252,7 +293,126 @@ fn join_lists<K: Knowledge>(
     changed
 }
 
-/// The same of one variable.
+/// The same, and each variable of which more may be known then is put among the news.
+fn join_noted<K: Knowledge>(
+    kinds: &mut [u8],
+    numbers: &mut [i64],
+    other_kinds: &[u8],
+    other_numbers: &[i64],
+    news: &mut StateNews,
+) -> bool
+    requires long { length numbers.old ≡ length kinds.old }
+    requires other { length other_kinds.now ≡ length kinds.old }
+    requires other_long { length other_numbers.now ≡ length kinds.old }
+    ensures long { length kinds.new ≡ length kinds.old }
+    ensures numbers_long { length numbers.new ≡ length numbers.old }
+    ensures joined { decoded_each K.decoded kinds.new numbers.new
+        ≡ joined_each K.rules.joined (decoded_each K.decoded kinds.old numbers.old)
+        (decoded_each K.decoded other_kinds.now other_numbers.now) }
+    ensures unchanged { (result ≡ false) ↔ (decoded_each K.decoded kinds.new numbers.new
+        ≡ decoded_each K.decoded kinds.old numbers.old) }
+    ensures keeps { KeepsRaised K.rules news.old (decoded_each K.decoded kinds.old numbers.old)
+        news.new (decoded_each K.decoded kinds.new numbers.new) }
+{
+    let mut changed = false;
+    for i in 0..kinds.len() {
+        let other = K::of_code(other_kinds[i], &other_numbers[i]);
+        changed = changed | join_one(kinds, numbers, i, other, news);
+    }
+    changed
+}
+
+/// Joins what is known of these variables alone, if there are such, and puts each that was raised among the news.
+fn raise_lists<K: Knowledge>(
+    kinds: &mut [u8],
+    numbers: &mut [i64],
+    other_kinds: &[u8],
+    other_numbers: &[i64],
+    raised: &[usize],
+    news: &mut StateNews,
+) -> bool
+    requires long { length numbers.old ≡ length kinds.old }
+    requires other { length other_kinds.now ≡ length kinds.old }
+    requires other_long { length other_numbers.now ≡ length kinds.old }
+    ensures long { length kinds.new ≡ length kinds.old }
+    ensures numbers_long { length numbers.new ≡ length numbers.old }
+    ensures raised { IsRaised K.below K.rules raised.now
+        (decoded_each K.decoded other_kinds.now other_numbers.now)
+        (decoded_each K.decoded kinds.old numbers.old)
+        (decoded_each K.decoded kinds.new numbers.new) }
+    ensures unchanged { (result ≡ false) ↔ (decoded_each K.decoded kinds.new numbers.new
+        ≡ decoded_each K.decoded kinds.old numbers.old) }
+    ensures keeps { KeepsRaised K.rules news.old (decoded_each K.decoded kinds.old numbers.old)
+        news.new (decoded_each K.decoded kinds.new numbers.new) }
+{
+    let mut changed = false;
+    for i in 0..raised.len() {
+        changed = changed
+            | raise_at::<K>(kinds, numbers, other_kinds, other_numbers, raised[i], news);
+    }
+    changed
+}
+
+/// The same of one variable, if there is one of this number.
+fn raise_at<K: Knowledge>(
+    kinds: &mut [u8],
+    numbers: &mut [i64],
+    other_kinds: &[u8],
+    other_numbers: &[i64],
+    x: usize,
+    news: &mut StateNews,
+) -> bool
+    requires long { length numbers.old ≡ length kinds.old }
+    requires other { length other_kinds.now ≡ length kinds.old }
+    requires other_long { length other_numbers.now ≡ length kinds.old }
+    ensures long { length kinds.new ≡ length kinds.old }
+    ensures numbers_long { length numbers.new ≡ length numbers.old }
+    ensures raised { IsRaised K.below K.rules (x ∷ [])
+        (decoded_each K.decoded other_kinds.now other_numbers.now)
+        (decoded_each K.decoded kinds.old numbers.old)
+        (decoded_each K.decoded kinds.new numbers.new) }
+    ensures unchanged { (result ≡ false) ↔ (decoded_each K.decoded kinds.new numbers.new
+        ≡ decoded_each K.decoded kinds.old numbers.old) }
+    ensures keeps { KeepsRaised K.rules news.old (decoded_each K.decoded kinds.old numbers.old)
+        news.new (decoded_each K.decoded kinds.new numbers.new) }
+{
+    if x < kinds.len() {
+        let other = K::of_code(other_kinds[x], &other_numbers[x]);
+        join_one(kinds, numbers, x, other, news)
+    } else {
+        false
+    }
+}
+
+/// Joins what is known of one variable, and puts it among the news if it was raised.
+fn join_one<K: Knowledge>(
+    kinds: &mut [u8],
+    numbers: &mut [i64],
+    i: usize,
+    other: K,
+    news: &mut StateNews,
+) -> bool
+    requires there { i < length kinds.old }
+    requires long { length numbers.old ≡ length kinds.old }
+    ensures long { length kinds.new ≡ length kinds.old }
+    ensures numbers_long { length numbers.new ≡ length numbers.old }
+    ensures joined { decoded_each K.decoded kinds.new numbers.new
+        ≡ slice_set (decoded_each K.decoded kinds.old numbers.old) i
+        (K.rules.joined (slice_index_or (decoded_each K.decoded kinds.old numbers.old) i other)
+        other) }
+    ensures unchanged { (result ≡ false)
+        ↔ (K.rules.joined (slice_index_or (decoded_each K.decoded kinds.old numbers.old) i other)
+        other ≡ slice_index_or (decoded_each K.decoded kinds.old numbers.old) i other) }
+    ensures noted { IsNotedIf result i news.old news.new }
+{
+    let raised = join_at(kinds, numbers, i, other);
+    if raised {
+        news.note(i);
+    }
+    raised
+}
+
+/// Turns what is known of one variable into what is known where two paths meet, and answers whether that changed.
 fn join_at<K: Knowledge>(kinds: &mut [u8], numbers: &mut [i64], i: usize, other: K) -> bool
     requires there { i < length kinds.old }
     requires long { length numbers.old ≡ length kinds.old }

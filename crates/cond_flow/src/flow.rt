@@ -1,19 +1,26 @@
 // The states as a flow over blocks: they are kept only where blocks begin, and pass through a block on the way along an
 // edge of its last node.
-ghost use Rattle.std.specs.Prelude.{◌≡◌, ◌↔◌, ◌<◌, ◌-◌, if◌then◌else◌, false, true, length, take};
+ghost use Rattle.std.specs.Prelude.{◌≡◌, ◌↔◌, ◌<◌, ◌-◌, ◌/◌, if◌then◌else◌, false, true, length, take};
 ghost use Rattle.flow_graph.specs.Blocks.{IsChain};
-ghost use Rattle.fix_solve.specs.NewsFlows.{untold_laws};
+ghost use Rattle.fix_solve.specs.Net.{Joins};
 ghost use Rattle.fix_solve.specs.Order.{IsLeastUpper};
-ghost use Rattle.cond_flow.specs.Blockwise.{last_of, out_of, through_nodes};
+ghost use Rattle.cond_flow.specs.Blockwise.{block_at, last_of, out_of, through_nodes};
 ghost use Rattle.cond_flow.specs.Flows.{IsStateFlow, net_of};
 ghost use Rattle.cond_flow.specs.FlowLaws.{flow_laws};
 ghost use Rattle.cond_flow.specs.Passing.{passed_along};
-ghost use Rattle.cond_flow.specs.States.{BelowState, joined_each, size_of, state_where};
+ghost use Rattle.cond_flow.specs.Catching.{HasPassed, IsCaught};
+ghost use Rattle.cond_flow.specs.Caught.{caught_in, caught_laws};
+ghost use Rattle.cond_flow.specs.NewsShapes.{IsAllNew};
+ghost use Rattle.cond_flow.specs.Raising.{KeepsRaised};
+ghost use Rattle.cond_flow.specs.Reading.{AreApart};
+ghost use Rattle.cond_flow.specs.States.{BelowState, Knows, is_reached, joined_each, size_of, state_where};
 
+use crate::news::{MOST_SMALL, StateNews};
+use crate::reading::{are_apart, take_read};
 use crate::states::BlockState;
 use crate::transfer::{may_pass, step};
 use crate::{Facts, Knowledge};
-use fix_solve::{AllNews, Flow, Steps};
+use fix_solve::{Flow, News, Steps};
 use flow_graph::{Blocks, Graph};
 use mir_base::Memory;
 use std::alloc::Global;
@@ -42,6 +49,8 @@ impl<'a, K: Knowledge, L: Ledger> Flow for StateFlow<'a, K, L> {
 
     ghost net = { net_of K.rules };
 
+    ghost caught = { caught_in K.below K.rules };
+
     fn nodes(&self) -> usize {
         self.blocks.len()
     }
@@ -64,8 +73,9 @@ impl<'a, K: Knowledge, L: Ledger> Flow for StateFlow<'a, K, L> {
         Ok(state)
     }
 
-    fn news(&self, _alloc: Global) -> Result<AllNews, Memory> {
-        Ok(AllNews)
+    fn news(&self, alloc: Global) -> Result<StateNews, Memory> {
+        let news = StateNews::new(alloc, self.zeros.len())?;
+        Ok(news)
     }
 
     fn push(
@@ -94,9 +104,53 @@ impl<'a, K: Knowledge, L: Ledger> Flow for StateFlow<'a, K, L> {
         }
     }
 
+    fn push_news(
+        &self,
+        number: usize,
+        target: usize,
+        from: &BlockState<K>,
+        news: &StateNews,
+        into: &mut BlockState<K>,
+        into_news: &mut StateNews,
+        steps: &mut Steps<L>,
+    ) -> bool {
+        if self.is_whole(from.reached, into.reached) {
+            let changed = self.push(number, target, from, into, steps);
+            renew_if(changed, into_news);
+            changed
+        } else {
+            steps.tick();
+            self.join_news(
+                number,
+                &from.known,
+                news,
+                &mut into.room,
+                &mut into.known,
+                into_news,
+            )
+        }
+    }
+
+    fn push_self_news(
+        &self,
+        number: usize,
+        value: &mut BlockState<K>,
+        news: &mut StateNews,
+        steps: &mut Steps<L>,
+    ) -> bool {
+        if self.is_whole(value.reached, value.reached) {
+            let changed = self.push_self(number, value, steps);
+            renew_if(changed, news);
+            changed
+        } else {
+            steps.tick();
+            self.join_round(number, &mut value.known, &mut value.room, news)
+        }
+    }
+
     ghost laws = { flow_laws K.laws.order K.laws.rising };
 
-    ghost news_laws = { λ f v. untold_laws };
+    ghost news_laws = { caught_laws K.laws.order };
 }
 
 impl<'a, K: Knowledge, L: Ledger> StateFlow<'a, K, L> {
@@ -120,6 +174,160 @@ impl<'a, K: Knowledge, L: Ledger> StateFlow<'a, K, L> {
         }
     }
 
+    /// Whether a push from a block to another takes the whole state, where it is known which of them are reached.
+    fn is_whole(&self, from: bool, into: bool) -> bool
+        ensures from { result ≡ false → from ≡ true }
+        ensures into { result ≡ false → into ≡ true }
+    {
+        self.zeros.len() <= MOST_SMALL || !from || !into
+    }
+
+    /// Joins what passes along an edge of a block that is reached, before which this is known, to what is known before one
+    /// that is reached, with room for as much; puts the variables that are raised there among the news, and answers whether
+    /// there are any.
+    fn join_news(
+        &self,
+        number: usize,
+        known: &Facts<K>,
+        news: &StateNews,
+        room: &mut Facts<K>,
+        into: &mut Facts<K>,
+        into_news: &mut StateNews,
+    ) -> bool
+        requires valid { IsStateFlow K.rules self.now }
+        requires in_range { number < length self.now.targets.now }
+        requires fits { length known.now ≡ length room.old }
+        requires long { length known.now ≡ length into.old }
+        requires caught { IsCaught K.below K.rules ((net_of K.rules self.now).transfer number)
+            news.now (Knows known.now) (Knows into.old) }
+        ensures room { length room.new ≡ length room.old }
+        ensures joined { Joins (BelowState K.below) (net_of K.rules self.now) number
+            (Knows known.now) (Knows into.old) (Knows into.new) }
+        ensures unchanged { (result ≡ false) ↔ (into.new ≡ into.old) }
+        ensures keeps { KeepsRaised K.rules into_news.old into.old into_news.new into.new }
+    {
+        if self.is_past(number, news) {
+            self.join_past(number, known, news.raised(), room, into, into_news)
+        } else {
+            self.join_whole(number, known, room, into, into_news)
+        }
+    }
+
+    /// The same along an edge of a block to itself: what the block does not touch is there already.
+    fn join_round(
+        &self,
+        number: usize,
+        known: &mut Facts<K>,
+        room: &mut Facts<K>,
+        news: &mut StateNews,
+    ) -> bool
+        requires valid { IsStateFlow K.rules self.now }
+        requires in_range { number < length self.now.targets.now }
+        requires fits { length known.old ≡ length room.old }
+        requires caught { IsCaught K.below K.rules ((net_of K.rules self.now).transfer number)
+            news.old (Knows known.old) (Knows known.old) }
+        ensures room { length room.new ≡ length room.old }
+        ensures joined { Joins (BelowState K.below) (net_of K.rules self.now) number
+            (Knows known.old) (Knows known.old) (Knows known.new) }
+        ensures unchanged { (result ≡ false) ↔ (known.new ≡ known.old) }
+        ensures keeps { KeepsRaised K.rules news.old known.old news.new known.new }
+    {
+        if self.is_past(number, news) {
+            false
+        } else {
+            let passes = self.pass(number, known, room);
+            join_noting(passes, known, room, news)
+        }
+    }
+
+    /// Whether not all is news, and the block from which an edge leads touches none of the variables that are.
+    fn is_past(&self, number: usize, news: &StateNews) -> bool
+        requires valid { IsStateFlow K.rules self.now }
+        requires in_range { number < length self.now.targets.now }
+        ensures whole { result ≡ true → news.now.whole ≡ false }
+        ensures apart { result ≡ true → AreApart self.now.graph.now.shared
+            self.now.graph.now.nodes (block_at self.now.blocks.now.lists (number / 2))
+            news.now.raised }
+    {
+        if news.are_all() {
+            false
+        } else {
+            are_apart(self.graph, self.blocks.nodes(number / 2), news.raised())
+        }
+    }
+
+    /// Joins all that passes.
+    fn join_whole(
+        &self,
+        number: usize,
+        known: &Facts<K>,
+        room: &mut Facts<K>,
+        into: &mut Facts<K>,
+        into_news: &mut StateNews,
+    ) -> bool
+        requires valid { IsStateFlow K.rules self.now }
+        requires in_range { number < length self.now.targets.now }
+        requires fits { length known.now ≡ length room.old }
+        requires long { length known.now ≡ length into.old }
+        ensures room { length room.new ≡ length room.old }
+        ensures joined { Joins (BelowState K.below) (net_of K.rules self.now) number
+            (Knows known.now) (Knows into.old) (Knows into.new) }
+        ensures unchanged { (result ≡ false) ↔ (into.new ≡ into.old) }
+        ensures keeps { KeepsRaised K.rules into_news.old into.old into_news.new into.new }
+    {
+        let passes = self.pass(number, known, room);
+        join_noting(passes, into, room, into_news)
+    }
+
+    /// Joins what passes where all has passed but for these variables, which the block does not touch.
+    fn join_past(
+        &self,
+        number: usize,
+        known: &Facts<K>,
+        raised: &[usize],
+        room: &mut Facts<K>,
+        into: &mut Facts<K>,
+        into_news: &mut StateNews,
+    ) -> bool
+        requires valid { IsStateFlow K.rules self.now }
+        requires in_range { number < length self.now.targets.now }
+        requires fits { length known.now ≡ length room.old }
+        requires long { length known.now ≡ length into.old }
+        requires apart { AreApart self.now.graph.now.shared self.now.graph.now.nodes
+            (block_at self.now.blocks.now.lists (number / 2)) raised.now }
+        requires passed { HasPassed K.below K.rules ((net_of K.rules self.now).transfer number)
+            raised.now (Knows known.now) (Knows into.old) }
+        ensures room { length room.new ≡ length room.old }
+        ensures joined { Joins (BelowState K.below) (net_of K.rules self.now) number
+            (Knows known.now) (Knows into.old) (Knows into.new) }
+        ensures unchanged { (result ≡ false) ↔ (into.new ≡ into.old) }
+        ensures keeps { KeepsRaised K.rules into_news.old into.old into_news.new into.new }
+    {
+        if self.passes_still(number, known, room) {
+            into.join_raised(known, raised, into_news)
+        } else {
+            false
+        }
+    }
+
+    /// Whether anything passes along an edge of a block before which this is known, found out with room for as much.
+    fn passes_still(&self, number: usize, known: &Facts<K>, room: &mut Facts<K>) -> bool
+        requires valid { IsStateFlow K.rules self.now }
+        requires in_range { number < length self.now.targets.now }
+        requires fits { length known.now ≡ length room.old }
+        ensures long { length room.new ≡ length room.old }
+        ensures passes { result
+            ≡ is_reached ((net_of K.rules self.now).transfer number (Knows known.now)) }
+    {
+        let list = self.blocks.nodes(number / 2);
+        if may_pass::<K>(self.graph.node(last(list)), number % 2) {
+            take_read(self.graph, list, known, room);
+            leave(self.graph, list, number % 2, true, room)
+        } else {
+            false
+        }
+    }
+
     /// Writes to the room what passes along an edge of a block before which this is known, and answers whether anything
     /// does.
     fn pass(&self, number: usize, known: &Facts<K>, room: &mut Facts<K>) -> bool
@@ -139,6 +347,16 @@ impl<'a, K: Knowledge, L: Ledger> StateFlow<'a, K, L> {
     }
 }
 
+/// Makes all news where a state changed.
+fn renew_if(changed: bool, news: &mut StateNews)
+    ensures all { changed ≡ true → IsAllNew news.new }
+    ensures kept { changed ≡ false → news.new ≡ news.old }
+{
+    if changed {
+        news.renew();
+    }
+}
+
 /// Turns what is known into what is known where something passes to a block that is reached, and answers whether that
 /// changed.
 fn join_where<K: Knowledge>(passes: bool, known: &mut Facts<K>, passed: &Facts<K>) -> bool
@@ -150,6 +368,27 @@ fn join_where<K: Knowledge>(passes: bool, known: &mut Facts<K>, passed: &Facts<K
 {
     if passes {
         known.join_from(passed)
+    } else {
+        false
+    }
+}
+
+/// The same, and each variable of which more may be known then is put among the news.
+fn join_noting<K: Knowledge>(
+    passes: bool,
+    known: &mut Facts<K>,
+    passed: &Facts<K>,
+    news: &mut StateNews,
+) -> bool
+    requires { length passed.now ≡ length known.old }
+    ensures joined { known.new
+        ≡ (if passes then joined_each K.rules.joined known.old passed.now
+        else known.old) }
+    ensures unchanged { (result ≡ false) ↔ (known.new ≡ known.old) }
+    ensures keeps { KeepsRaised K.rules news.old known.old news.new known.new }
+{
+    if passes {
+        known.join_noting(passed, news)
     } else {
         false
     }

@@ -12,6 +12,8 @@ mod facts;
 mod flow;
 mod knowledge;
 mod least_states;
+mod news;
+mod reading;
 mod rewriting;
 mod solving;
 mod states;

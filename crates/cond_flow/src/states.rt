@@ -4,8 +4,9 @@ ghost use Rattle.fix_solve.specs.Order.{IsLeastUpper};
 ghost use Rattle.cond_flow.specs.States.{BelowState, is_reached, size_of, state_rank, state_where};
 ghost use Rattle.cond_flow.specs.StateLaws.{state_laws};
 
+use crate::news::StateNews;
 use crate::{Facts, Knowledge};
-use fix_solve::{AllNews, Lattice};
+use fix_solve::Lattice;
 use mir_base::Memory;
 use std::alloc::Global;
 use std::marker::Model;
@@ -67,7 +68,7 @@ impl<K: Knowledge> BlockState<K> {
 }
 
 impl<K: Knowledge> Lattice for BlockState<K> {
-    type News = AllNews;
+    type News = StateNews;
 
     ghost below = { BelowState K.below };
 

@@ -1,0 +1,90 @@
+// What of the state of a block is news.
+ghost use Rattle.std.specs.Prelude.{◌≡◌};
+ghost use Rattle.cond_flow.specs.NewsShapes.{FitsAny, IsAllNew, IsNoneNew, IsNoted};
+
+use fix_solve::News;
+use mir_base::Memory;
+use std::alloc::Global;
+use std::marker::Model;
+
+/// What of a state is news: all of it, or that more may be known now of each of some variables, those that were raised.
+/// Contracts see both.
+#[derive(Drop)]
+pub(crate) struct StateNews {
+    whole: bool,
+    raised: Vec<usize>,
+}
+
+impl Model for StateNews {
+    ghost use Rattle.cond_flow.specs.NewsShapes.{NewsShape};
+
+    ghost Value = { NewsShape };
+
+    ghost view = { λ news. record { whole = news.whole; raised = news.raised.items } };
+}
+
+/// Up to so many variables each push takes the whole state: to look at all of them costs no more than to keep news.
+pub(crate) const MOST_SMALL: usize = 256;
+
+/// One in so many variables may be told of; if more are raised, all is news.
+const SHARE: usize = 16;
+
+impl StateNews {
+    /// News of a state of so many variables: nothing is news. It fails only with `Memory`.
+    pub(crate) fn new(alloc: Global, variables: usize) -> Result<StateNews, Memory> {
+        let most = if variables <= MOST_SMALL {
+            0
+        } else {
+            variables / SHARE
+        };
+        let raised = Vec::with_capacity(alloc, most)?;
+        Ok(StateNews {
+            whole: false,
+            raised,
+        })
+    }
+
+    /// Whether all is news. It does not allocate.
+    pub(crate) fn are_all(&self) -> bool
+        ensures { result ≡ self.now.whole }
+    {
+        self.whole
+    }
+
+    /// The variables that were raised, where not all is news. It does not allocate.
+    pub(crate) fn raised(&self) -> &[usize]
+        ensures { result.now ≡ self.now.raised }
+    {
+        self.raised.as_slice()
+    }
+
+    /// Adds a variable that was raised; where there is no room for it, all becomes news. It does not allocate.
+    pub(crate) fn note(&mut self, x: usize)
+        ensures { IsNoted x self.old self.new }
+    {
+        if self.whole {
+            return;
+        }
+        if self.raised.len() == self.raised.capacity() || self.raised.push(x).is_err() {
+            self.renew();
+        }
+    }
+}
+
+impl News for StateNews {
+    ghost fits = { FitsAny };
+
+    ghost is_all = { IsAllNew };
+
+    ghost is_none = { IsNoneNew };
+
+    fn renew(&mut self) {
+        self.whole = true;
+        self.raised.clear();
+    }
+
+    fn settle(&mut self) {
+        self.whole = false;
+        self.raised.clear();
+    }
+}
