@@ -31,7 +31,7 @@ use Rattle.mir_top.proofs.Statuses.{is_of_run}
 
 -- ---- commands
 
--- no command is not some command
+-- words that are no command are not this command
 pub no_command_of : (command : Command) (asked : Option Command) → asked ≡ None → asked ≡ Some command → ⊥
 no_command_of command asked none some = absurd (let e = sym none ∙ some in cc)
 
@@ -57,7 +57,7 @@ within_of Passes text program reads on = on
 within_of (Run steps) text program reads on = on
 within_of (Trial number units) text program reads on = absurd (cc)
 
--- where the words are of this command, and read the text, so does the command
+-- where the words are of this command and ask for the text, the command is one that reads it
 pub reads_of : (words : List (List ℕ)) (command : Command) → command_of words ≡ Some command → Reads words → IsTrue (reads_text command)
 reads_of words command asked reads = subst (λ (c : Command). IsTrue (reads_text c)) (same_command reads.0 command (command_of words) reads.1 asked) reads.2
 

@@ -1,4 +1,4 @@
--- What making answers, as the commands have it.
+-- What the functions that make an output answer, said of the command that asked for it.
 use Rattle.std.proofs.Common.{◌≡◌, ℕ, ℤ, List, Result, Err, Ok, IfOk, IfErr, sym, ap, ◌∙◌, subst}
 use Rattle.std.specs.declared.alloc.AllocError.{AllocError}
 use Rattle.mir_base.specs.Shapes.{ProgramShape}
@@ -38,7 +38,7 @@ run_stops program words inputs steps fault same is = stops program words steps f
 
 -- ---- by command
 
--- what a command makes, where the command is known by an equation
+-- what one command makes is made by a command that is equal to it
 makes_with : (words : List (List ℕ)) (program : ProgramShape) (asked command : Command) (made : Made) → asked ≡ command → IsMadeBy words program command made → IsMadeBy words program asked made
 makes_with words program asked command made is makes = subst (λ (c : Command). IsMadeBy words program c made) (sym is) makes
 

@@ -98,17 +98,17 @@ some_inserted (row ∷ rows) i some = some_by row rows i (has_bit (row ∷ []) i
 
 -- ---- lines
 
--- the temporary after this one
+-- the number of the temporary of the next expression is 1 more where this one is inserted, and else the same
 next_temporary : (unit : MoveUnit) (i : ℕ) (b : Bool) → has_insertion unit.placement.insert i ≡ b → temporary_at unit (i + 1) ≡ temporary_at unit i + one_if b
 next_temporary unit i b is =
     let step : one_if (has_insertion unit.placement.insert i) ≡ one_if b = ap one_if is in
     ap (temporary_at unit) (add-one i) ∙ omega (arith, step)
 
--- is the same where the expression is not inserted
+-- so it stays where the expression is not inserted
 pub same_next : (unit : MoveUnit) (i : ℕ) → rows_with unit.placement.insert i ≡ 0 → temporary_at unit i ≡ temporary_at unit (i + 1)
 same_next unit i none = omega (arith, next_temporary unit i false (none_inserted unit.placement.insert i none))
 
--- and the next number where it is
+-- and is 1 more where it is
 pub one_next : (unit : MoveUnit) (i : ℕ) → rows_with unit.placement.insert i ≢ 0 → temporary_at unit (i + 1) ≡ temporary_at unit i + 1
 one_next unit i some = next_temporary unit i true (some_inserted unit.placement.insert i some)
 

@@ -48,7 +48,7 @@ drawn_prevents words source command number units refusal asked is =
 
 -- ---- the units of a trial
 
--- there are from 1 to 256
+-- a trial has from 1 to 256 units
 abbrev pub IsUnitCount : ℕ → Type 0
 IsUnitCount units = (0 < units) × (units ≤ most_units)
 

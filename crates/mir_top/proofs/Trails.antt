@@ -37,7 +37,7 @@ pub record HasTrails {T : Type 0} (Own : Command → Type 0) (field : Reply → 
 
 -- ---- the trail of all passes
 
--- the commands that have one
+-- the commands whose reply has a trail of all passes
 abbrev pub HasPasses : Command → Type 0
 HasPasses command = (command ≡ Optimise) ⊎ (command ≡ Stages)
 
@@ -68,7 +68,7 @@ passes_of words program Passes outcome output makes = subst (SaysPasses program 
 passes_of words program (Run steps) outcome output makes = subst (SaysPasses program (Run steps) output) (sym makes.outcome_is) tt
 passes_of words program (Trial number units) outcome output makes = subst (SaysPasses program (Trial number units) output) (sym makes.outcome_is) tt
 
--- under the two the outcome is one of these
+-- under `optimise` and `stages` the outcome has a trail
 passes_come : (words : List (List ℕ)) (program : ProgramShape) (command : Command) (outcome : Outcome) (output : List ℕ) → Makes words program command outcome output
     → HasPasses command → IsSome (reply_of outcome).trail
 passes_come words program command outcome output makes (inl is) =
@@ -78,13 +78,13 @@ passes_come words program command outcome output makes (inr is) =
     let made : Makes words program Stages outcome output = subst (λ (c : Command). Makes words program c outcome output) is makes in
     subst (λ (o : Outcome). IsSome (reply_of o).trail) (sym made.outcome_is) refl
 
--- so the field `trail` has the trail of both
+-- so the field `trail` of a reply has the trail of `optimise` and of `stages`
 pub passes : HasTrails HasPasses (λ (a : Reply). a.trail) (λ (t : Trail). t.source) Optimises IsPassesOutput
 passes = record { reads = passes_read; empty = λ status. refl; of = passes_of; comes = passes_come }
 
 -- ---- the trails of code motion alone and of the motion of divisions alone
 
--- the commands that have one
+-- the commands whose reply has such a trail
 abbrev pub HasMotion : Command → Type 0
 HasMotion command = (command ≡ Move) ⊎ ((command ≡ Ranges) ⊎ (command ≡ Divisions))
 

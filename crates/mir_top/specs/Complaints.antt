@@ -72,11 +72,11 @@ write_fault = record { status = 7; line = codes "write fault\n" }
 abbrev pub out_of_memory : Complaint
 out_of_memory = record { status = 8; line = codes "out of memory\n" }
 
--- what is wrong with a text
+-- a text is refused with this line
 abbrev pub refused : List ℕ → Complaint
 refused what = record { status = 2; line = what }
 
--- what is wrong with a text at this line of it
+-- a text is refused for what is wrong at this line of it
 abbrev pub refused_at : ℕ → List ℕ → Complaint
 refused_at line what = refused (codes "line " ++ decimal line ++ what)
 

@@ -97,7 +97,8 @@ JoinsUnits = Rewrites IsJoinedProgram
 abbrev pub AreTurns : ℕ → ProgramShape → ProgramShape → Type 0
 AreTurns zero source target = target ≡ source
 AreTurns (suc count) source target =
-    (next : ProgramShape) × IsChained turn source next × (next ≢ source) × AreTurns count next target
+    (next : ProgramShape) × IsChained turn source next × (next ≢ source)
+    × AreTurns count next target
 
 -- the target is what at most so many turns lead to, each of which changed the program; where fewer do, one turn more
 -- changes nothing
@@ -201,8 +202,10 @@ pub record IsSummary (program : ProgramShape) (output : List ℕ) : Type 0 where
 -- ---- by command
 
 -- the outcome and the output are those of a trail of the program, which has reached this, and of which this is shown
-pub record ShowsTrail {T : Type 0} (source_of : T → ProgramShape) (Reached : T → Type 0) (Shows : T → List ℕ → Type 0)
-    (outcome_of : T → Outcome) (program : ProgramShape) (outcome : Outcome) (output : List ℕ) : Type 0 where
+pub record ShowsTrail {T : Type 0} (source_of : T → ProgramShape) (Reached : T → Type 0)
+    (Shows : T → List ℕ → Type 0)
+    (outcome_of : T → Outcome) (program : ProgramShape) (outcome : Outcome)
+    (output : List ℕ) : Type 0 where
   pub trail : T
   pub source : source_of trail ≡ program
   pub reached : Reached trail
@@ -248,7 +251,8 @@ Makes words program Optimise = ShowsPasses (λ trail. IsWritten trail.target) Op
 Makes words program Stages = ShowsPasses ShowsStages Shown program
 Makes words program Move = ShowsMotion MovesCode (λ trail. IsWritten trail.target) Moved program
 Makes words program Ranges = ShowsMotion MovesCode (λ trail. ShowsRanges trail.units) Ranged program
-Makes words program Divisions = ShowsMotion Divides (λ trail. IsWritten trail.target) Divided program
+Makes words program Divisions =
+    ShowsMotion Divides (λ trail. IsWritten trail.target) Divided program
 Makes words program Tails = WritesTarget LoopsTails program
 Makes words program Join = WritesTarget JoinsUnits program
 Makes words program Thorough = WritesTarget TurnsThrough program

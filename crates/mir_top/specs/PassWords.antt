@@ -3,7 +3,7 @@ use Rattle.std.specs.Prelude.{ℕ, Bool, ◌&&◌, List, [], ◌∷◌, map, len
 use Rattle.std.specs.List.{list_all}
 use Rattle.mir_base.specs.Words.{is_text}
 use Rattle.pass_chain.specs.declared.passes.Pass.{Pass}
-use Rattle.pass_chain.specs.declared.passes.Pass.TheVariants.{Tails, Join, Optimise, Clean, Fold, Number, Copies, Motion, Divisions, Sink, Bounds, Wanted, Demanded, Called}
+use Rattle.pass_chain.specs.declared.passes.Pass.TheVariants.{Tails, Join, Optimise, Clean, Fold, Number, Copies, Motion, Divisions, Sink, Comparisons, Bounds, Wanted, Demanded, Called}
 
 -- the most passes of a call
 abbrev pub most_passes : ℕ
@@ -22,6 +22,7 @@ pass_of word =
     if is_text (codes "motion") word then Some Motion else
     if is_text (codes "divisions") word then Some Divisions else
     if is_text (codes "sink") word then Some Sink else
+    if is_text (codes "comparisons") word then Some Comparisons else
     if is_text (codes "bounds") word then Some Bounds else
     if is_text (codes "wanted") word then Some Wanted else
     if is_text (codes "demanded") word then Some Demanded else

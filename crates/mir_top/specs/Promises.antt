@@ -168,9 +168,11 @@ pub record Promises (call : Call) : Type 0 where
   -- At most one byte more than a text may have is read, and nothing where no text is asked for.
   pub most : TakesAtMost call.source.old call.source.new (most_bytes + 1)
   pub unread : ¬ Reads call.words → Untouched call.source
-  -- With the statuses 0, 3 and 4 the one output that the words ask was made, and written, whole and nothing else.
+  -- With the statuses 0, 3 and 4 the one output that the words ask was made, and written, whole and
+  -- nothing else.
   pub made : StatusIn call (0 ∷ 3 ∷ 4 ∷ []) → HasMade call
-  -- A trail comes exactly with status 0 under `optimise` and `stages`, a move trail so under `move`, `ranges` and
+  -- A trail comes exactly with status 0 under `optimise` and `stages`, a move trail so under
+  -- `move`, `ranges` and
   -- `divisions`.
   pub trail : IsSome call.reply.trail
       ↔ (StatusIs call 0 × (Asked call Optimise ⊎ Asked call Stages))
@@ -181,7 +183,8 @@ pub record Promises (call : Call) : Type 0 where
   pub moves : Asked call Move → IfSome call.reply.moved (HasMoved call)
   pub ranges : Asked call Ranges → IfSome call.reply.moved (HasRanged call)
   pub divisions : Asked call Divisions → IfSome call.reply.moved (HasDivided call)
-  -- Under `tails`, `join`, `thorough` and `passes` status 0 says that the program was rewritten, and the text of what
+  -- Under `tails`, `join`, `thorough` and `passes` status 0 says that the program was rewritten,
+  -- and the text of what
   -- came of it was written.
   pub tails : Asked call Tails → StatusIs call 0 → HasRewritten call LoopsTails
   pub joins : Asked call Join → StatusIs call 0 → HasRewritten call JoinsUnits
@@ -192,20 +195,24 @@ pub record Promises (call : Call) : Type 0 where
   pub reports : (steps : ℕ) → Asked call (Run steps) → StatusIn call (0 ∷ 3 ∷ 4 ∷ [])
       → HasRun call steps
   pub of_run : StatusIn call (3 ∷ 4 ∷ []) → (steps : ℕ) × Asked call (Run steps)
-  -- Under `trial` status 0 says that the program of its numbers was tried; else the output failed or memory ran out. So
+  -- Under `trial` status 0 says that the program of its numbers was tried; else the output failed
+  -- or memory ran out. So
   -- no run of a trial is ever too deep.
   pub tries : (number units : ℕ) → Asked call (Trial number units) → StatusIs call 0
       → HasTried call (trial_program number units)
   pub of_trial : (number units : ℕ) → Asked call (Trial number units)
       → StatusIn call (0 ∷ 7 ∷ 8 ∷ [])
-  -- Status 1, 2 and 5 come only where the words, the text, the inputs or the run are refused, with the line of this
-  -- refusal. Where a refusal is due it comes, unless reading fails or memory runs out; wrong words need neither a read
+  -- Status 1, 2 and 5 come only where the words, the text, the inputs or the run are refused, with
+  -- the line of this
+  -- refusal. Where a refusal is due it comes, unless reading fails or memory runs out; wrong words
+  -- need neither a read
   -- nor memory.
   pub refused : StatusIn call (1 ∷ 2 ∷ 5 ∷ []) → HasRefused call
   pub refuses : (text : List ℕ) (complaint : Complaint) → HasText call text
       → Refuses call.words text complaint → EndsBy call complaint
   pub usage : command_of call.words ≡ None → StatusIs call 1
-  -- Status 6 and 7 come only where a device failed: the count of its faults rose, or is saturated. With 7 a proper
+  -- Status 6 and 7 come only where a device failed: the count of its faults rose, or is saturated.
+  -- With 7 a proper
   -- prefix of the one output that the words ask was written. Status 8 comes under a command alone.
   pub read_fault : StatusIs call 6
       → Reads call.words × HasFailed call.source × LineIsWritten call read_fault

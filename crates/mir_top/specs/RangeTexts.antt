@@ -42,11 +42,13 @@ line_at unit held i (Some e) =
 -- the lines of the expressions before number n
 abbrev pub lines_below : MoveUnit → List (List Bool) → ℕ → List ℕ
 lines_below unit held zero = []
-lines_below unit held (suc n) = lines_below unit held n ++ line_at unit held n (slice_get unit.table n)
+lines_below unit held (suc n) =
+    lines_below unit held n ++ line_at unit held n (slice_get unit.table n)
 
 -- the text of a unit, by the rows that say where temporaries are held
 abbrev pub range_text : MoveUnit → List (List Bool) → List ℕ
-range_text unit held = codes "unit " ++ unit.split.name ++ codes "\n" ++ lines_below unit held (length unit.table)
+range_text unit held =
+    codes "unit " ++ unit.split.name ++ codes "\n" ++ lines_below unit held (length unit.table)
 
 -- the text is that of the unit, by the rows that say exactly where its temporaries are held
 pub record IsRangeText (unit : MoveUnit) (text : List ℕ) : Type 0 where

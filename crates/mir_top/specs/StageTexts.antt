@@ -40,7 +40,7 @@ AppendsStage trail stage old new =
     (program : ProgramShape) × IsProgramAt trail stage program
     × (new.items ≡ old.items ++ (title (stage_name stage) ++ canonical_text program))
 
--- and with those of these stages in turn
+-- the new bytes are the old ones with the titles and the texts of these stages in turn
 abbrev pub AppendsStages : {A : Type 0} → Trail → List Stage → Vec ℕ A → Vec ℕ A → Type 0
 AppendsStages trail stages old new =
     (others : List ℕ) × ShowsInTurn trail stages others × (new.items ≡ old.items ++ others)

@@ -13,12 +13,12 @@ use crate::{Ending, Reply, text_has_one_reading};
 use mir_outside::{Sink, Source, write_all};
 use std::alloc::Global;
 
-/// Does what the words ask: `optimise` writes the canonical text of the target of the program that is read, `stages`
-/// that of the program at each stage, `move`, `divisions`, `tails` and `join` that of the target of code motion, of the
-/// motion of divisions, of tails as loops and of joined leaves, `thorough` and `passes [PASS ..]` that of what turns
-/// of all passes and what these passes make of it, `ranges` where the temporaries of `move` live, `run STEPS [N ..]` the report of its run, and `trial NUMBER UNITS` the
-/// summary of a program that the numbers draw.
-/// The text comes from the source, the output goes to `out`, and where this fails one line goes to `err`.
+/// Does what the words ask. `optimise` writes the canonical text of the target of the program that is read, `stages`
+/// that of the program at each stage, `move`, `divisions`, `tails` and `join` that of what code motion, the motion of
+/// divisions, tails as loops and joined leaves make of it, `thorough` and `passes [PASS ..]` that of what turns and
+/// these passes make of it; `ranges` writes where the temporaries of `move` live, `run STEPS [N ..]` the report of its
+/// run, and `trial NUMBER UNITS` the summary of a program that the numbers draw. The text comes from the source, the
+/// output goes to `out`, and with each status but 0, 3 and 4 one line goes to `err`.
 ///
 /// The words are judged before anything is read, the text before anything is made of its program, and all of the output
 /// is made before anything is written. What is read and made does not see `out` and `err`, and what writes is given the

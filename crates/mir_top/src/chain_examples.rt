@@ -1,4 +1,5 @@
-// Worked examples of turns of all passes and of chains of passes, byte for byte. `tests.rt` says how an example is written.
+// Worked examples of turns of all passes and of chains of passes, byte for byte. `tests.rt` says how an example is
+// written.
 
 pub const CHAIN_EXAMPLES: &str = "\
 # a unit is a leaf once the one that it calls stands in it, so that a second turn joins it too
@@ -188,10 +189,11 @@ end
 # as many passes as there may be, each by its word
 main: begin
 end
-$ passes tails join optimise clean fold number copies motion divisions sink bounds wanted demanded called tails join \
-optimise clean fold number copies motion divisions sink bounds wanted demanded called tails join optimise clean fold \
-number copies motion divisions sink bounds wanted demanded called tails join optimise clean fold number copies motion \
-divisions sink bounds wanted demanded called tails join optimise clean fold number copies motion
+$ passes tails join optimise clean fold number copies motion divisions sink comparisons bounds wanted demanded called \
+tails join optimise clean fold number copies motion divisions sink comparisons bounds wanted demanded called tails \
+join optimise clean fold number copies motion divisions sink comparisons bounds wanted demanded called tails join \
+optimise clean fold number copies motion divisions sink comparisons bounds wanted demanded called tails join optimise \
+clean
 @ 0
 main: begin
 return 0

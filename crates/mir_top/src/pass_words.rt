@@ -78,6 +78,8 @@ fn pass_of(word: &[u8]) -> Option<Pass>
         Some(Pass::Divisions)
     } else if is_text(b"sink", word) {
         Some(Pass::Sink)
+    } else if is_text(b"comparisons", word) {
+        Some(Pass::Comparisons)
     } else if is_text(b"bounds", word) {
         Some(Pass::Bounds)
     } else if is_text(b"wanted", word) {

@@ -6,6 +6,7 @@ use Rattle.flow_graph.specs.Graphs.{GraphShape}
 use Rattle.cond_const.specs.Folded.{IsFolded}
 use Rattle.value_number.specs.Numbered.{IsNumbered}
 use Rattle.copy_flow.specs.Copied.{IsCopied}
+use Rattle.compare_flow.specs.Compared.{IsCompared}
 use Rattle.edge_split.specs.Split.{IsEdgeSplit}
 use Rattle.sink_rounds.specs.RoundGraphs.{AreRounds, last_round}
 use Rattle.value_bounds.specs.Bounded.{IsBounded}
@@ -19,7 +20,7 @@ use Rattle.mir_opt.specs.Links.{IsDivisionLinked, IsLinked, IsMoveLinked}
 use Rattle.called_units.specs.CalledUnits.{HasCalledUnits}
 use Rattle.program_wanted.specs.WantedPrograms.{IsWantedProgram}
 use Rattle.pass_chain.specs.declared.passes.Pass.{Pass}
-use Rattle.pass_chain.specs.declared.passes.Pass.TheVariants.{Tails, Join, Optimise, Clean, Fold, Number, Copies, Motion, Divisions, Sink, Bounds, Wanted, Demanded, Called}
+use Rattle.pass_chain.specs.declared.passes.Pass.TheVariants.{Tails, Join, Optimise, Clean, Fold, Number, Copies, Motion, Divisions, Sink, Comparisons, Bounds, Wanted, Demanded, Called}
 
 -- ---- passes on graphs
 
@@ -59,7 +60,8 @@ IsMoved = HasTrail {T = MoveTrail} (λ trail. trail.source) (λ trail. trail.tar
 
 -- the target of the motion of divisions alone
 abbrev pub HasDivisionsMoved : ProgramShape → ProgramShape → Type 0
-HasDivisionsMoved = HasTrail {T = MoveTrail} (λ trail. trail.source) (λ trail. trail.target) IsDivisionLinked
+HasDivisionsMoved =
+    HasTrail {T = MoveTrail} (λ trail. trail.source) (λ trail. trail.target) IsDivisionLinked
 
 -- ---- all passes
 
@@ -75,6 +77,7 @@ IsPassedBy Copies = PassesGraphs IsCopied
 IsPassedBy Motion = IsMoved
 IsPassedBy Divisions = HasDivisionsMoved
 IsPassedBy Sink = PassesGraphs SunkInRounds
+IsPassedBy Comparisons = PassesGraphs IsCompared
 IsPassedBy Bounds = PassesGraphs IsBounded
 IsPassedBy Wanted = PassesGraphs IsNarrowed
 IsPassedBy Demanded = IsWantedProgram

@@ -4,12 +4,14 @@ ghost use Rattle.flow_graph.specs.Graphs.{GraphShape};
 ghost use Rattle.cond_const.specs.Folded.{IsFolded};
 ghost use Rattle.value_number.specs.Numbered.{IsNumbered};
 ghost use Rattle.copy_flow.specs.Copied.{IsCopied};
+ghost use Rattle.compare_flow.specs.Compared.{IsCompared};
 ghost use Rattle.sink_rounds.specs.RoundGraphs.{last_round};
 ghost use Rattle.value_bounds.specs.Bounded.{IsBounded};
 ghost use Rattle.wanted_bits.specs.Narrowed.{IsNarrowed};
 ghost use Rattle.pass_chain.specs.Passes.{IsUnchanged, SunkInRounds};
 ghost use Rattle.pass_chain.specs.GraphPasses.{IsMadeOf};
 
+use compare_flow::comparisons;
 use cond_const::fold;
 use copy_flow::copies;
 use edge_split::split;
@@ -117,6 +119,19 @@ impl GraphPass for Bounding {
     fn unit_of(alloc: Global, graph: &Graph) -> Result<MirUnit, Memory> {
         let bounded = use_bounds(alloc, graph)?;
         let unit = laid_out(alloc, &bounded)?;
+        Ok(unit)
+    }
+}
+
+/// Comparisons in tests, of `compare_flow`.
+pub(crate) struct Comparing;
+
+impl GraphPass for Comparing {
+    ghost exact = { IsCompared };
+
+    fn unit_of(alloc: Global, graph: &Graph) -> Result<MirUnit, Memory> {
+        let compared = comparisons(alloc, graph)?;
+        let unit = laid_out(alloc, &compared)?;
         Ok(unit)
     }
 }

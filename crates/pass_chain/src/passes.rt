@@ -3,7 +3,9 @@ ghost use Rattle.std.specs.Prelude.{IfOk};
 ghost use Rattle.program_pass.specs.PassPrograms.{IsOnly, KeepsRuns, Rewrites};
 ghost use Rattle.pass_chain.specs.Passes.{IsPassedBy};
 
-use crate::graph_passes::{Bounding, Cleaning, Copying, Folding, Narrowing, Numbering, Sinking};
+use crate::graph_passes::{
+    Bounding, Cleaning, Comparing, Copying, Folding, Narrowing, Numbering, Sinking,
+};
 use crate::over_units::program_through;
 use crate::whole::{demanded, divided, joined, looped, moved, optimised, with_called_units};
 use mir_base::{Memory, Program};
@@ -32,6 +34,8 @@ pub enum Pass {
     Divisions,
     /// Assignments sink to where they are needed, in rounds, and dead ones go.
     Sink,
+    /// A test of a variable that holds a comparison is the comparison.
+    Comparisons,
     /// What the bounds of values decide stands in the place of what is computed.
     Bounds,
     /// Operators that change no bit that is wanted go.
@@ -46,9 +50,9 @@ pub enum Pass {
 /// with `Memory`.
 ///
 /// `Tails`, `Join`, `Demanded` and `Called` make what `tail_program`, `join_program`, `wanted_program` and
-/// `called_program` make, and `Optimise`, `Motion` and `Divisions` the targets of `optimise`, `motion` and `divisions`. The
-/// others are passes on graphs: each unit is lowered, cleaned, passed, cleaned and laid out. `Clean` does nothing in
-/// between, and `Sink` splits the graph and then makes its rounds.
+/// `called_program` make, and `Optimise`, `Motion` and `Divisions` the targets of `optimise`, `motion` and `divisions`.
+/// The others are passes on graphs: each unit is lowered, cleaned, passed, cleaned and laid out. `Clean` does nothing
+/// in between, and `Sink` splits the graph and then makes its rounds.
 pub fn pass_program(alloc: Global, pass: Pass, program: &Program) -> Result<Program, Memory>
     ensures passed { IfOk result (IsPassedBy pass program.now) }
     ensures only { IfOk result (IsOnly (IsPassedBy pass program.now)) }
@@ -73,6 +77,7 @@ fn passed(alloc: Global, pass: Pass, program: &Program) -> Result<Program, Memor
         Pass::Motion => moved(alloc, program),
         Pass::Divisions => divided(alloc, program),
         Pass::Sink => program_through::<Sinking>(alloc, program),
+        Pass::Comparisons => program_through::<Comparing>(alloc, program),
         Pass::Bounds => program_through::<Bounding>(alloc, program),
         Pass::Wanted => program_through::<Narrowing>(alloc, program),
         Pass::Demanded => demanded(alloc, program),

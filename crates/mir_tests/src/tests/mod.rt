@@ -1,6 +1,7 @@
 // Examples as texts, and for each layer a file that makes its answers into text.
 mod blocks;
 mod bound_examples;
+mod compare_examples;
 mod copied;
 mod delayed;
 mod edits;

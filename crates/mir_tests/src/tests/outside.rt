@@ -27,7 +27,7 @@ fn source(alloc: Global) -> Result<MemSource, AllocError> {
     Ok(MemSource::new(bytes, 2, fails))
 }
 
-/// Whether this comes of reading all, where three bytes are the limit.
+/// Whether `read_all` answers this of the source, with a limit of three bytes.
 fn reads(alloc: Global, source: &mut MemSource, wanted: Result<&[u8], ReadFault>) -> bool {
     match read_all(alloc, source, 3) {
         Ok(all) => wanted == Ok(all.as_slice()),

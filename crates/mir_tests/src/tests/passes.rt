@@ -1,6 +1,7 @@
-// What the passes make of small programs, and what they find out: the examples of `examples.rt`, `value_examples.rt`
-// and `row_examples.rt`.
+// What the passes make of small programs, and what they find out: the examples of `examples.rt`, `value_examples.rt`,
+// `bound_examples.rt`, `compare_examples.rt` and `row_examples.rt`.
 use crate::tests::bound_examples::BOUND_EXAMPLES;
+use crate::tests::compare_examples::COMPARE_EXAMPLES;
 use crate::tests::copied::copies_text;
 use crate::tests::delayed::{delays_text, live_text};
 use crate::tests::edits::put_of;
@@ -14,6 +15,7 @@ use crate::tests::shown::{graph_text, put_changes};
 use crate::tests::support::graph_of;
 use crate::tests::terms::terms_text;
 use crate::tests::value_examples::VALUE_EXAMPLES;
+use compare_flow::comparisons;
 use cond_const::fold;
 use copy_flow::copies;
 use div_move::move_dividing;
@@ -32,7 +34,13 @@ use wanted_bits::narrow;
 /// Each example.
 #[test]
 fn examples_of_passes(rt: HostRuntime) -> Result<(), Fail> {
-    for examples in [EXAMPLES, VALUE_EXAMPLES, BOUND_EXAMPLES, ROW_EXAMPLES] {
+    for examples in [
+        EXAMPLES,
+        VALUE_EXAMPLES,
+        BOUND_EXAMPLES,
+        COMPARE_EXAMPLES,
+        ROW_EXAMPLES,
+    ] {
         for example in examples.split("# ").skip(1) {
             let other = other_than(rt.alloc(), example)?;
             assert!(rt; other.is_empty(), "{example}makes otherwise:\n{other}");
@@ -85,6 +93,7 @@ fn after(alloc: Global, pass: &str, graph: &Graph) -> Result<Graph, Fail> {
         "fold" => Ok(fold(alloc, graph)?),
         "number" => Ok(number(alloc, graph)?),
         "copies" => Ok(copies(alloc, graph)?),
+        "comparisons" => Ok(comparisons(alloc, graph)?),
         "bounds" => Ok(use_bounds(alloc, graph)?),
         "narrow" => Ok(narrow(alloc, graph)?),
         "split" => Ok(split(alloc, graph)?),

@@ -84,6 +84,7 @@ fn pass_named(name: &str) -> Option<Pass> {
         "motion" => Some(Pass::Motion),
         "divisions" => Some(Pass::Divisions),
         "sink" => Some(Pass::Sink),
+        "comparisons" => Some(Pass::Comparisons),
         "bounds" => Some(Pass::Bounds),
         "wanted" => Some(Pass::Wanted),
         "demanded" => Some(Pass::Demanded),

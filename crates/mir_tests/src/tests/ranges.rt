@@ -36,7 +36,7 @@ fn text_over(alloc: Global, graph: &Graph, edges: &Edges) -> Result<String, Memo
     text
 }
 
-/// The same, of the expressions of a table.
+/// The lines of where the temporaries of a table live, one for each expression.
 fn text_of(alloc: Global, graph: &Graph, edges: &Edges, table: &ExprTable) -> Result<String, Memory>
     requires split { IsSplit graph.now.nodes }
     requires edges { edges.now ≡ edges_of graph.now.nodes }

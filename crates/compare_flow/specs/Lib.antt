@@ -1,0 +1,4 @@
+pub mod Truths
+pub mod Compared
+pub mod ComparedLaws
+pub mod ByRows

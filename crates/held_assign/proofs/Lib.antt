@@ -1,0 +1,4 @@
+pub mod Taking
+pub mod Holdable
+pub mod Bits
+pub mod Found

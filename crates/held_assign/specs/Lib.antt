@@ -1,0 +1,7 @@
+pub mod Holding
+pub mod HeldLaws
+pub mod HeldValues
+pub mod HeldValueLaws
+pub mod Assignments
+pub mod SameAssignments
+pub mod Rows
