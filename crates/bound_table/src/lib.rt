@@ -11,6 +11,5 @@
 mod bounded;
 mod ends;
 mod states;
-mod steps;
 
 pub use bounded::text_of_bounds;

@@ -6,13 +6,13 @@ use Rattle.flow_graph.specs.declared.nodes.Node.{Node}
 use Rattle.flow_graph.specs.declared.nodes.Node.TheVariants.{Call}
 use Rattle.flow_graph.specs.Graphs.{GraphShape}
 use Rattle.table_text.specs.Lines.{field, name_field, names_of_units}
+use Rattle.table_text.specs.Steps.{steps_text}
 use Rattle.table_text.specs.Turns.{InTurn}
 use Rattle.unit_join.specs.declared.leaf_tests.LeafTest.{LeafTest}
 use Rattle.unit_join.specs.declared.steps.JoinSteps.{JoinSteps}
 use Rattle.unit_join.specs.Joins.{AreLeavesOf, leaf_at}
 use Rattle.unit_join.specs.JoinSteps.{IsJoinMade}
 use Rattle.unit_join.specs.LeafTests.{IsLeafTest}
-use Rattle.call_table.specs.Steps.{back_text, front_text}
 
 -- ---- leaves
 
@@ -24,12 +24,14 @@ called_text names none (Some unit) = codes " calls" ++ name_field names unit
 -- that a unit is a leaf, or why it is none: it is long, or calls this unit first
 abbrev pub why_text : List (List ℕ) → Bool → Option ℕ → List ℕ
 why_text names long calls =
-    if long then field (codes "long") ++ called_text names [] calls else called_text names (codes " leaf") calls
+    if long then field (codes "long") ++ called_text names [] calls
+    else called_text names (codes " leaf") calls
 
 -- the line of the unit of this number: its name, how many instructions it has, and what decides whether it is a leaf
 abbrev pub body_line : List (List ℕ) → ℕ → LeafTest → List ℕ
 body_line names number test =
-    codes "body" ++ name_field names number ++ field (decimal test.insts) ++ why_text names test.long test.calls ++ codes "\n"
+    codes "body" ++ name_field names number ++ field (decimal test.insts)
+    ++ why_text names test.long test.calls ++ codes "\n"
 
 -- the text is the line of the unit of this number among these
 pub record IsBodyAt (units : List UnitShape) (number : ℕ) (text : List ℕ) : Type 0 where
@@ -49,7 +51,8 @@ became_text (Some leaf) = field (codes "joined")
 -- the line of a call of this unit: its node, the unit, and what becomes of it
 abbrev pub call_line : List (List ℕ) → List (Option GraphShape) → ℕ → ℕ → List ℕ
 call_line names leaves number unit =
-    codes "call" ++ field (decimal number) ++ name_field names unit ++ became_text (leaf_at leaves unit) ++ codes "\n"
+    codes "call" ++ field (decimal number) ++ name_field names unit
+    ++ became_text (leaf_at leaves unit) ++ codes "\n"
 
 -- the line of a node, where it is a call
 abbrev pub node_line : List (List ℕ) → List (Option GraphShape) → ℕ → Node → List ℕ
@@ -64,7 +67,8 @@ line_at names leaves number (Some node) = node_line names leaves number node
 -- the lines of the first nodes, of which there are so many
 abbrev pub calls_below : List (List ℕ) → List (Option GraphShape) → List Node → ℕ → List ℕ
 calls_below names leaves nodes zero = []
-calls_below names leaves nodes (suc n) = calls_below names leaves nodes n ++ line_at names leaves n (slice_get nodes n)
+calls_below names leaves nodes (suc n) =
+    calls_below names leaves nodes n ++ line_at names leaves n (slice_get nodes n)
 
 -- ---- units
 
@@ -79,13 +83,14 @@ laid_line insts = codes "laid" ++ field (decimal insts) ++ taken_text insts ++ c
 -- the graphs of a unit on its way, between them what becomes of its calls, and behind them how long it becomes
 abbrev pub joined_text : List (List ℕ) → List (Option GraphShape) → JoinSteps → List ℕ
 joined_text names leaves made =
-    front_text names made.steps ++ codes "pass join\n"
-    ++ calls_below names leaves made.steps.cleaned.nodes (length made.steps.cleaned.nodes)
-    ++ back_text names (codes "join") made.steps ++ laid_line made.insts
+    steps_text names (codes "join") made.steps
+    (calls_below names leaves made.steps.cleaned.nodes (length made.steps.cleaned.nodes))
+    ++ laid_line made.insts
 
 -- the text is that of the unit of this number among these, whose leaves are these: of the graphs that the pass makes of
 -- it, of what becomes of each call of its cleaned graph, and of how long it becomes
-pub record IsJoinedAt (units : List UnitShape) (leaves : List (Option GraphShape)) (number : ℕ) (text : List ℕ)
+pub record IsJoinedAt (units : List UnitShape) (leaves : List (Option GraphShape)) (number : ℕ)
+    (text : List ℕ)
     : Type 0 where
   pub unit : UnitShape
   pub made : JoinSteps

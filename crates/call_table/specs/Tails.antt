@@ -1,16 +1,14 @@
 -- The text of the tables of self tail calls. Cited by contracts, those of the crates above too.
 use Rattle.std.specs.Prelude.{◌≡◌, ℕ, zero, suc, List, [], ◌++◌, codes, decimal, length, slice_get, Option, Some, None}
 use Rattle.mir_base.specs.Shapes.{ProgramShape, UnitShape}
-use Rattle.program_pass.specs.declared.steps.PassSteps.{PassSteps}
-use Rattle.program_pass.specs.Steps.{ArePassSteps}
+use Rattle.flow_graph.specs.Graphs.{GraphShape}
 use Rattle.table_text.specs.Lines.{field, name_field, names_of_units}
-use Rattle.table_text.specs.Turns.{InTurn}
+use Rattle.table_text.specs.Steps.{ShowsPass}
 use Rattle.tail_loop.specs.declared.positions.CallPosition.{CallPosition}
 use Rattle.tail_loop.specs.declared.positions.Position.{Position}
 use Rattle.tail_loop.specs.declared.positions.Position.TheVariants.{Loop, Tail, Dropped, Global, Then}
 use Rattle.tail_loop.specs.Positions.{AreCallPositions}
 use Rattle.tail_loop.specs.Tails.{Tailed}
-use Rattle.call_table.specs.Steps.{back_text, front_text}
 
 -- ---- calls
 
@@ -25,7 +23,8 @@ position_text (Then node) = codes " then" ++ field (decimal node)
 -- the line of a call: its node, the unit that it calls, and how it stands
 abbrev pub call_line : List (List ℕ) → ℕ → CallPosition → List ℕ
 call_line names node call =
-    codes "call" ++ field (decimal node) ++ name_field names call.unit ++ position_text call.position ++ codes "\n"
+    codes "call" ++ field (decimal node) ++ name_field names call.unit
+    ++ position_text call.position ++ codes "\n"
 
 -- the line of a node, where it is a call
 abbrev pub entry_line : List (List ℕ) → ℕ → Option CallPosition → List ℕ
@@ -44,25 +43,14 @@ calls_below names calls (suc n) = calls_below names calls n ++ line_at names n (
 
 -- ---- units
 
--- the graphs of a unit on its way to loops, and between them how its calls stand
-abbrev pub tailed_text : List (List ℕ) → PassSteps → List (Option CallPosition) → List ℕ
-tailed_text names steps calls =
-    front_text names steps ++ codes "pass tails\n" ++ calls_below names calls (length calls)
-    ++ back_text names (codes "tails") steps
-
--- the text is that of the unit of this number among these: of the graphs that the pass makes of it, and of how each
--- call of its cleaned graph stands
-pub record IsTailedAt (units : List UnitShape) (number : ℕ) (text : List ℕ) : Type 0 where
-  pub unit : UnitShape
-  pub steps : PassSteps
+-- the text says of each node of the graph of the unit of this number how it stands, where it is a call
+pub record TellsCalls (units : List UnitShape) (number : ℕ) (graph : GraphShape) (text : List ℕ)
+    : Type 0 where
   pub calls : List (Option CallPosition)
-  pub stands : slice_get units number ≡ Some unit
-  pub steps_are : ArePassSteps Tailed unit number steps
-  pub calls_are : AreCallPositions steps.cleaned number calls
-  pub text_is : text ≡ tailed_text (names_of_units units) steps calls
+  pub are : AreCallPositions graph number calls
+  pub text_is : text ≡ calls_below (names_of_units units) calls (length calls)
 
--- the text is that of each unit of the program in turn
-pub record ShowsTails (program : ProgramShape) (text : List ℕ) : Type 0 where
-  pub units : List ℕ
-  pub are : InTurn (IsTailedAt program.units) (length program.units) units
-  pub text_is : text ≡ codes "tables 1 tails\n" ++ units
+-- the text is that of each unit of the program in turn: of the graphs that the pass makes of it, and of how each call of
+-- its cleaned graph stands
+abbrev pub ShowsTails : ProgramShape → List ℕ → Type 0
+ShowsTails program text = ShowsPass (codes "tails") Tailed TellsCalls program text

@@ -1,17 +1,18 @@
 // The tables of joined leaves. Each function fails only with `Memory`.
-ghost use Rattle.std.specs.Prelude.{◌<◌, IfOk, OnOk, length};
+ghost use Rattle.std.specs.Prelude.{IfOk, length};
 ghost use Rattle.mir_base.specs.Appending.{AppendsOnOk};
 ghost use Rattle.table_text.specs.Lines.{names_of_units};
-ghost use Rattle.table_text.specs.Turns.{AppendsSome, InTurn};
 ghost use Rattle.unit_join.specs.JoinPrograms.{AreLeavesMade};
 ghost use Rattle.unit_join.specs.Joins.{leaf_at};
 ghost use Rattle.call_table.specs.Joins.{IsBodyAt, IsJoinedAt, ShowsJoins, became_text, body_line, call_line, called_text, calls_below, joined_text, laid_line, node_line, taken_text, why_text};
 
-use crate::steps::{put_back, put_front};
 use flow_graph::Node;
 use mir_base::{MOST_INSTS, Memory, Program, Unit as MirUnit};
 use std::alloc::Global;
-use table_text::{put_count, put_field, put_unit_field};
+use table_text::{
+    Pieces, put_back, put_count, put_field, put_front, put_in_turn, put_pass, put_unit_field,
+    unit_count, units_of,
+};
 use unit_join::{JoinSteps, LeafTest, Leaves, join_steps, leaf_test};
 
 /// The tables of `join`: for each unit of a program whether it is a leaf, and then for each unit what becomes of its
@@ -31,21 +32,31 @@ fn text_with(alloc: Global, program: &Program, leaves: &Leaves) -> Result<Vec<u8
 {
     let mut text = Vec::new(alloc);
     text.extend_from_slice(b"tables 1 join\n")?;
-    put_bodies(&mut text, program)?;
-    put_each(alloc, &mut text, program, leaves)?;
+    put_in_turn(alloc, &mut text, &Bodies { program })?;
+    put_in_turn(alloc, &mut text, &JoinedUnits { program, leaves })?;
     Ok(text)
 }
 
-/// Appends for each unit whether it is a leaf.
-fn put_bodies(text: &mut Vec<u8>, program: &Program) -> Result<(), Memory>
-    ensures { OnOk result (AppendsSome
-        (InTurn (IsBodyAt program.now.units) (length program.now.units)) text.old text.new) }
-{
-    for number in 0..program.units.items().len() {
-        let test = leaf_test(program.unit(number));
-        put_body(text, program.units.items(), number, test)?;
+/// For each unit of a program whether it is a leaf.
+#[derive(Drop)]
+struct Bodies<'a> {
+    program: &'a Program,
+}
+
+impl Pieces for Bodies<'_> {
+    ghost count = { λ s. length s.program.now.units };
+
+    ghost is_piece = { λ s. IsBodyAt s.program.now.units };
+
+    fn len(&self) -> usize {
+        unit_count(self.program)
     }
-    Ok(())
+
+    fn put(&self, _alloc: Global, text: &mut Vec<u8>, number: usize) -> Result<(), Memory> {
+        let test = leaf_test(self.program.unit(number));
+        put_body(text, units_of(self.program), number, test)?;
+        Ok(())
+    }
 }
 
 /// Appends what decides whether the unit of this number is a leaf.
@@ -97,40 +108,29 @@ fn put_called(
     }
 }
 
-/// Appends the tables of each unit, with the leaves of the program.
-fn put_each(
-    alloc: Global,
-    text: &mut Vec<u8>,
-    program: &Program,
-    leaves: &Leaves,
-) -> Result<(), Memory>
-    requires { AreLeavesMade program.now.units leaves.now.units }
-    ensures { OnOk result (AppendsSome
-        (InTurn (IsJoinedAt program.now.units leaves.now.units) (length program.now.units))
-        text.old text.new) }
-{
-    for number in 0..program.units.items().len() {
-        put_joined(alloc, text, program, leaves, number)?;
-    }
-    Ok(())
+/// The tables of the units of a program, with its leaves.
+#[derive(Drop)]
+struct JoinedUnits<'a> {
+    program: &'a Program,
+    leaves: &'a Leaves,
 }
 
-/// Appends the tables of the unit of this number.
-fn put_joined(
-    alloc: Global,
-    text: &mut Vec<u8>,
-    program: &Program,
-    leaves: &Leaves,
-    number: usize,
-) -> Result<(), Memory>
-    requires leaves { AreLeavesMade program.now.units leaves.now.units }
-    requires number { number < length program.now.units }
-    ensures { OnOk result (AppendsSome (IsJoinedAt program.now.units leaves.now.units number)
-        text.old text.new) }
-{
-    let made = join_steps(alloc, program, leaves, number)?;
-    put_tables(text, program.units.items(), leaves, &made)?;
-    Ok(())
+impl Pieces for JoinedUnits<'_> {
+    ghost count = { λ s. length s.program.now.units };
+
+    ghost is_piece = { λ s. IsJoinedAt s.program.now.units s.leaves.now.units };
+
+    ghost holds = { λ s. AreLeavesMade s.program.now.units s.leaves.now.units };
+
+    fn len(&self) -> usize {
+        unit_count(self.program)
+    }
+
+    fn put(&self, alloc: Global, text: &mut Vec<u8>, number: usize) -> Result<(), Memory> {
+        let made = join_steps(alloc, self.program, self.leaves, number)?;
+        put_tables(text, units_of(self.program), self.leaves, &made)?;
+        Ok(())
+    }
 }
 
 /// Appends the graphs of a unit, what becomes of its calls, and how long it becomes.
@@ -144,10 +144,10 @@ fn put_tables(
         (joined_text (names_of_units units.now) leaves.now.units made.now) }
 {
     let steps = &made.steps;
-    put_front(text, units, steps)?;
-    text.extend_from_slice(b"pass join\n")?;
+    put_front(text, units, &steps.lowered, &steps.cleaned)?;
+    put_pass(text, b"join")?;
     put_calls(text, units, leaves, steps.cleaned.nodes())?;
-    put_back(text, units, b"join", steps)?;
+    put_back(text, units, b"join", &steps.passed, &steps.swept)?;
     put_laid(text, made.insts)?;
     Ok(())
 }

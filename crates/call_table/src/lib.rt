@@ -10,7 +10,6 @@
 #![tactic(auto)]
 
 mod joins;
-mod steps;
 mod tails;
 
 pub use joins::text_of_joins;

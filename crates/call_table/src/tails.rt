@@ -1,15 +1,15 @@
 // The tables of self tail calls. Each function fails only with `Memory`.
-ghost use Rattle.std.specs.Prelude.{◌<◌, IfOk, OnOk, length};
+ghost use Rattle.std.specs.Prelude.{IfOk, length};
 ghost use Rattle.mir_base.specs.Appending.{AppendsOnOk};
 ghost use Rattle.table_text.specs.Lines.{names_of_units};
-ghost use Rattle.table_text.specs.Turns.{AppendsSome, InTurn};
-ghost use Rattle.call_table.specs.Tails.{IsTailedAt, ShowsTails, call_line, calls_below, entry_line, position_text, tailed_text};
+ghost use Rattle.tail_loop.specs.Tails.{Tailed};
+ghost use Rattle.call_table.specs.Tails.{ShowsTails, TellsCalls, call_line, calls_below, entry_line, position_text};
 
-use crate::steps::{put_back, put_front};
+use flow_graph::Graph;
 use mir_base::{Memory, Program, Unit as MirUnit};
 use program_pass::PassSteps;
 use std::alloc::Global;
-use table_text::{put_count, put_field, put_unit_field};
+use table_text::{PassTable, put_count, put_field, put_unit_field, text_of_pass};
 use tail_loop::{CallPosition, Position, call_positions, tail_steps};
 
 /// The tables of `tails`: for each unit of a program how each call stands, and the graphs on the way to loops. It fails
@@ -17,54 +17,36 @@ use tail_loop::{CallPosition, Position, call_positions, tail_steps};
 pub fn text_of_tails(alloc: Global, program: &Program) -> Result<Vec<u8>, Memory>
     ensures { IfOk result (λ text. ShowsTails program.now text.items) }
 {
-    let mut text = Vec::new(alloc);
-    text.extend_from_slice(b"tables 1 tails\n")?;
-    put_each(alloc, &mut text, program)?;
+    let text = text_of_pass(alloc, program, b"tails", &TailsPass)?;
     Ok(text)
 }
 
-/// Appends the tables of each unit.
-fn put_each(alloc: Global, text: &mut Vec<u8>, program: &Program) -> Result<(), Memory>
-    ensures { OnOk result (AppendsSome
-        (InTurn (IsTailedAt program.now.units) (length program.now.units)) text.old text.new) }
-{
-    for number in 0..program.units.items().len() {
-        put_tailed(alloc, text, program, number)?;
+/// The pass that makes loops of self tail calls, with how the calls of a graph stand.
+#[derive(Clone, Copy)]
+struct TailsPass;
+
+impl PassTable for TailsPass {
+    ghost exact = { λ table. Tailed };
+
+    ghost finds = { λ table. TellsCalls };
+
+    fn steps(&self, alloc: Global, program: &Program, number: usize) -> Result<PassSteps, Memory> {
+        let steps = tail_steps(alloc, program, number)?;
+        Ok(steps)
     }
-    Ok(())
-}
 
-/// Appends the tables of the unit of this number.
-fn put_tailed(
-    alloc: Global,
-    text: &mut Vec<u8>,
-    program: &Program,
-    number: usize,
-) -> Result<(), Memory>
-    requires { number < length program.now.units }
-    ensures { OnOk result (AppendsSome (IsTailedAt program.now.units number) text.old text.new) }
-{
-    let steps = tail_steps(alloc, program, number)?;
-    let calls = call_positions(alloc, &steps.cleaned, number)?;
-    put_tables(text, program.units.items(), &steps, calls.as_slice())?;
-    Ok(())
-}
-
-/// Appends the graphs of a unit, and how its calls stand.
-fn put_tables(
-    text: &mut Vec<u8>,
-    units: &[MirUnit],
-    steps: &PassSteps,
-    calls: &[Option<CallPosition>],
-) -> Result<(), Memory>
-    ensures { AppendsOnOk result text.old text.new
-        (tailed_text (names_of_units units.now) steps.now calls.now) }
-{
-    put_front(text, units, steps)?;
-    text.extend_from_slice(b"pass tails\n")?;
-    put_calls(text, units, calls)?;
-    put_back(text, units, b"tails", steps)?;
-    Ok(())
+    fn put_found(
+        &self,
+        alloc: Global,
+        text: &mut Vec<u8>,
+        units: &[MirUnit],
+        number: usize,
+        graph: &Graph,
+    ) -> Result<(), Memory> {
+        let calls = call_positions(alloc, graph, number)?;
+        put_calls(text, units, calls.as_slice())?;
+        Ok(())
+    }
 }
 
 /// Appends a line for each node that is a call.

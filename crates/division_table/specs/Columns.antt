@@ -24,13 +24,15 @@ pub record AreDelayColumns (rows : SureRows) (columns : DelayColumns) : Type 0 w
   pub isolated_are : columns.isolated ≡ rows.late.isolated
 
 -- the placement, and where temporaries live
-pub record ArePlacedColumns (placement : Placement) (rows : SureRows) (columns : PlacedColumns) : Type 0 where
+pub record ArePlacedColumns (placement : Placement) (rows : SureRows)
+    (columns : PlacedColumns) : Type 0 where
   pub inserted_are : columns.inserted ≡ placement.insert
   pub replaced_are : columns.replaced ≡ placement.replace
   pub held_are : columns.held ≡ rows.held.edges
 
 -- and all of this
-pub record AreDivisionColumns (placement : Placement) (rows : DivisionRows) (columns : DivisionColumns) : Type 0 where
+pub record AreDivisionColumns (placement : Placement) (rows : DivisionRows)
+    (columns : DivisionColumns) : Type 0 where
   pub flow_are : AreFlowColumns rows columns.flow
   pub delays_are : AreDelayColumns rows.sure columns.delays
   pub placed_are : ArePlacedColumns placement rows.sure columns.placed

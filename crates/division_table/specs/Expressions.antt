@@ -62,7 +62,8 @@ placed_lines placed i =
 
 -- all of its rows
 abbrev pub column_lines : DivisionColumns → ℕ → List ℕ
-column_lines columns i = flow_lines columns.flow i ++ delay_lines columns.delays i ++ placed_lines columns.placed i
+column_lines columns i =
+    flow_lines columns.flow i ++ delay_lines columns.delays i ++ placed_lines columns.placed i
 
 -- the lines of expression i, where there is one
 abbrev pub expression_lines : MoveUnit → DivisionColumns → ℕ → Option Expr → List ℕ

@@ -28,7 +28,8 @@ pub record AreSureRows (unit : MoveUnit) (rows : SureRows) : Type 0 where
 -- where it is killed, and where every path evaluates it
 pub record AreBoundRows (unit : MoveUnit) (rows : BoundRows) : Type 0 where
   pub kills_are : AreRowsOf unit.split unit.table (kills unit.split) rows.kills
-  pub anticipatable_are : AreRowsWhere unit.split unit.table (IsAnticipatable unit.split) rows.anticipatable
+  pub anticipatable_are : AreRowsWhere unit.split unit.table
+      (IsAnticipatable unit.split) rows.anticipatable
 
 -- and all of this
 pub record AreDivisionRows (unit : MoveUnit) (rows : DivisionRows) : Type 0 where

@@ -93,7 +93,7 @@ fn bound_rows(alloc: Global, unit: &MoveUnit, edges: &Edges) -> Result<BoundRows
     })
 }
 
-/// Where every path evaluates its expressions. The edges are those of the split graph.
+/// Where each expression of the unit is anticipatable in its split graph, of which these are the edges.
 fn anticipatable_rows(alloc: Global, unit: &MoveUnit, edges: &Edges) -> Result<Rows, Memory>
     requires split { IsSplit unit.now.split.nodes }
     requires edges { edges.now ≡ edges_of unit.now.split.nodes }

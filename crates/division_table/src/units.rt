@@ -4,13 +4,14 @@ ghost use Rattle.mir_base.specs.Appending.{AppendsOnOk};
 ghost use Rattle.table_text.specs.Lines.{names_of_units};
 ghost use Rattle.table_text.specs.Turns.{AppendsSome};
 ghost use Rattle.division_table.specs.Rows.{IsUnitDivision};
-ghost use Rattle.division_table.specs.Units.{IsDividedText, back_text, front_text, split_text, start_text};
+ghost use Rattle.division_table.specs.Units.{IsDividedText, split_text, up_to_split};
 
 use crate::expressions::put_divisions;
+use flow_graph::Graph;
 use mir_base::{Memory, Unit as MirUnit};
 use mir_opt::MoveUnit;
 use std::alloc::Global;
-use table_text::{put_stage, put_unit};
+use table_text::{put_back, put_front, put_pass, put_stage};
 
 /// Appends the tables of a unit, among the units of its program.
 pub(crate) fn put_divided(
@@ -23,50 +24,27 @@ pub(crate) fn put_divided(
     ensures { OnOk result (AppendsSome (IsDividedText (names_of_units units.now) unit.now)
         text.old text.new) }
 {
-    put_front(text, units, unit)?;
+    put_up_to_split(text, units, unit)?;
     put_divisions(alloc, text, unit)?;
-    put_back(text, units, unit)?;
+    put_back(text, units, b"divisions", &unit.moved, &unit.swept)?;
     Ok(())
 }
 
-/// Appends the name of a unit and its graphs up to the split one.
-fn put_front(text: &mut Vec<u8>, units: &[MirUnit], unit: &MoveUnit) -> Result<(), Memory>
+/// Appends the name of a unit and its graphs up to the split one, between the passes that make them.
+fn put_up_to_split(text: &mut Vec<u8>, units: &[MirUnit], unit: &MoveUnit) -> Result<(), Memory>
     ensures { AppendsOnOk result text.old text.new
-        (front_text (names_of_units units.now) unit.now) }
+        (up_to_split (names_of_units units.now) unit.now) }
 {
-    put_start(text, units, unit)?;
-    put_split(text, units, unit)
-}
-
-/// Appends the name of a unit and its first two graphs.
-fn put_start(text: &mut Vec<u8>, units: &[MirUnit], unit: &MoveUnit) -> Result<(), Memory>
-    ensures { AppendsOnOk result text.old text.new
-        (start_text (names_of_units units.now) unit.now) }
-{
-    put_unit(text, unit.lowered.name())?;
-    put_stage(text, units, b"lower", &unit.lowered)?;
-    text.extend_from_slice(b"pass clean\n")?;
-    put_stage(text, units, b"clean", &unit.cleaned)?;
-    Ok(())
+    put_front(text, units, &unit.lowered, &unit.cleaned)?;
+    put_split(text, units, &unit.split)
 }
 
 /// Appends the split graph of a unit, between the passes that make it and that it is given to.
-fn put_split(text: &mut Vec<u8>, units: &[MirUnit], unit: &MoveUnit) -> Result<(), Memory>
+fn put_split(text: &mut Vec<u8>, units: &[MirUnit], split: &Graph) -> Result<(), Memory>
     ensures { AppendsOnOk result text.old text.new
-        (split_text (names_of_units units.now) unit.now) }
+        (split_text (names_of_units units.now) split.now) }
 {
-    text.extend_from_slice(b"pass split\n")?;
-    put_stage(text, units, b"split", &unit.split)?;
-    text.extend_from_slice(b"pass divisions\n")?;
-    Ok(())
-}
-
-/// Appends the moved graph of a unit, and the last one.
-fn put_back(text: &mut Vec<u8>, units: &[MirUnit], unit: &MoveUnit) -> Result<(), Memory>
-    ensures { AppendsOnOk result text.old text.new
-        (back_text (names_of_units units.now) unit.now) }
-{
-    put_stage(text, units, b"divisions", &unit.moved)?;
-    text.extend_from_slice(b"pass clean\n")?;
-    put_stage(text, units, b"result", &unit.swept)
+    put_pass(text, b"split")?;
+    put_stage(text, units, b"split", split)?;
+    put_pass(text, b"divisions")
 }

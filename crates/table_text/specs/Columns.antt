@@ -24,14 +24,16 @@ pub record AddsColumn (rows : List (List Bool)) (k count : ℕ) (old new : List 
 -- the bit of this number of the first words of a column, of which there are so many
 abbrev pub column_below : List ℕ → ℕ → ℕ → List ℕ
 column_below column bit zero = []
-column_below column bit (suc n) = column_below column bit n ++ bit_byte (word_bit (slice_index column n) bit) ∷ []
+column_below column bit (suc n) =
+    column_below column bit n ++ bit_byte (word_bit (slice_index column n) bit) ∷ []
 
 -- ---- all columns
 
 -- the words are the columns of the rows, one behind the other, so many
 pub record AreColumns (rows : List (List Bool)) (columns : ℕ) (words : List ℕ) : Type 0 where
   pub len : length words ≡ columns * length rows
-  pub each : (k n : ℕ) → k < columns → n < length rows → IsWordOf rows k n (slice_index words (k * length rows + n))
+  pub each : (k n : ℕ) → k < columns → n < length rows
+      → IsWordOf rows k n (slice_index words (k * length rows + n))
 
 -- bit b of row n of so many rows
 unfoldable pub line_bit : ℕ → List ℕ → ℕ → ℕ → Bool

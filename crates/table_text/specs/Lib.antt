@@ -2,5 +2,6 @@ pub mod Columns
 pub mod Lines
 pub mod Nodes
 pub mod Rows
+pub mod Steps
 pub mod Turns
 pub mod TurnLaws

@@ -30,10 +30,12 @@ node_text units vars (nodes.Print a next) =
 node_text units vars (nodes.Guard test number next) =
     codes " guard" ++ field (decimal next) ++ guard_text vars test number
 node_text units vars (nodes.Call into unit operands next) =
-    codes " call" ++ field (decimal next) ++ codes " " ++ call_text (naming_among units vars) into unit operands
+    codes " call" ++ field (decimal next) ++ codes " "
+    ++ call_text (naming_among units vars) into unit operands
 node_text units vars (nodes.Test test taken other) =
     ways_text taken other ++ codes " if " ++ test_text (naming_with vars) test
-node_text units vars (nodes.Return a) = codes " return -" ++ codes " return " ++ operand_text (naming_with vars) a
+node_text units vars (nodes.Return a) =
+    codes " return -" ++ codes " return " ++ operand_text (naming_with vars) a
 
 -- the line of a node of this number
 abbrev pub node_line : List (List ℕ) → List (List ℕ) → ℕ → Node → List ℕ
@@ -61,7 +63,8 @@ variables_text vars received =
 -- the lines of a graph, among units of these names
 abbrev pub graph_text : List (List ℕ) → GraphShape → List ℕ
 graph_text units graph =
-    globals_text graph.shared ++ variables_text graph.vars graph.received ++ node_lines units graph.vars 0 graph.nodes
+    globals_text graph.shared ++ variables_text graph.vars graph.received
+    ++ node_lines units graph.vars 0 graph.nodes
 
 -- the same behind the name of its stage
 abbrev pub stage_text : List (List ℕ) → List ℕ → GraphShape → List ℕ

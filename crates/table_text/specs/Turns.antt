@@ -6,7 +6,15 @@ use Rattle.std.specs.Prelude.{◌≡◌, ℕ, zero, suc, List, [], ◌++◌, Vec
 abbrev pub InTurn : (ℕ → List ℕ → Type 0) → ℕ → List ℕ → Type 0
 InTurn IsPiece zero text = text ≡ []
 InTurn IsPiece (suc n) text =
-    (front : List ℕ) × (piece : List ℕ) × InTurn IsPiece n front × IsPiece n piece × (text ≡ front ++ piece)
+    (front : List ℕ) × (piece : List ℕ) × InTurn IsPiece n front × IsPiece n piece
+    × (text ≡ front ++ piece)
+
+-- the text is this line, and behind it one piece for each of so many numbers
+pub record IsTableText (line : List ℕ) (IsPiece : ℕ → List ℕ → Type 0) (count : ℕ)
+    (text : List ℕ) : Type 0 where
+  pub pieces : List ℕ
+  pub are : InTurn IsPiece count pieces
+  pub text_is : text ≡ line ++ pieces
 
 -- ---- for the functions that write them
 

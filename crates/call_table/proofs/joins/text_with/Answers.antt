@@ -5,8 +5,8 @@ use Rattle.call_table.proofs.joins.text_with.Goals as goal
 -- the lines of the leaves and the tables of the units stand behind the first line
 pub returns : goal.returns
 returns c =
-    let bodies = c.in_ok-put_bodies.ensures in
-    let put = c.in_ok-put_each.ensures in
+    let bodies = c.in_ok-put_in_turn.ensures in
+    let put = c.in_ok-put_in_turn-2.ensures in
     let begun = c.in_ok-extend_from_slice.ensures.items ∙ ap (λ (l : List ℕ). l ++ codes "tables 1 join\n") c.new-text.ensures.items in
     record {
       leaves = c.args.leaves.now.units;

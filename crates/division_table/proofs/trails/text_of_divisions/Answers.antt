@@ -1,29 +1,25 @@
-use Rattle.std.proofs.Common.{◌++◌, ◌∙◌, List, ap, codes, length, subst, sym, ℕ}
+use Rattle.std.proofs.Common.{List, codes, length, subst, sym}
 use Rattle.std.specs.Prelude.{All}
 use Rattle.mir_base.specs.Shapes.{UnitShape}
 use Rattle.mir_opt.specs.declared.trails.MoveUnit.{MoveUnit}
 use Rattle.table_text.specs.Lines.{names_of_units}
-use Rattle.table_text.specs.Turns.{InTurn}
+use Rattle.table_text.specs.Turns.{IsTableText}
 use Rattle.division_table.specs.Trails.{IsDividedAt}
 use Rattle.division_table.specs.Rows.{IsUnitDivision}
 use Rattle.division_table.proofs.TrailLaws.{units_divided}
 use Rattle.division_table.proofs.trails.text_of_divisions.Goals as goal
 
-pub put_units-requires : goal.put_units-requires
-put_units-requires c =
+pub text_in_turn-requires : goal.text_in_turn-requires
+text_in_turn-requires c =
     let trail = c.args.trail.now in
-    subst (All IsUnitDivision) (sym c.items.ensures) (units_divided trail.source.units trail.units c.requires.steps)
+    subst (All IsUnitDivision) (sym c.items-units.ensures) (units_divided trail.source.units trail.units c.requires.steps)
 
--- the tables of the units stand behind the first line
+-- the units are those of the trail, among those of its program
 pub returns : goal.returns
 returns c =
     let trail = c.args.trail.now in
-    let put = c.in_ok-put_units.ensures in
+    let units = c.items-units.result.now in
     let line = codes "tables 1 divisions\n" in
-    let begun = c.in_ok-extend_from_slice.ensures.items ∙ ap (λ (l : List ℕ). l ++ line) c.new-text.ensures.items in
-    let names = subst (λ (l : List UnitShape). InTurn (IsDividedAt (names_of_units l) c.items.result.now) (length c.items.result.now) put.0) c.units_of.ensures put.1 in
-    record {
-      units = put.0;
-      are = subst (λ (l : List MoveUnit). InTurn (IsDividedAt (names_of_units trail.source.units) l) (length l) put.0) c.items.ensures names;
-      text_is = put.2 ∙ ap (λ (l : List ℕ). l ++ put.0) begun;
-    }
+    let text = c.in_ok-text.text.items in
+    let named = subst (λ (l : List UnitShape). IsTableText line (IsDividedAt (names_of_units l) units) (length units) text) c.units_of-sources.ensures c.in_ok-text.ensures in
+    subst (λ (l : List MoveUnit). IsTableText line (IsDividedAt (names_of_units trail.source.units) l) (length l) text) c.items-units.ensures named

@@ -1,5 +1,0 @@
-use Rattle.flow_graph.specs.LoweringLaws.{fits_lower}
-use Rattle.bound_table.proofs.steps.bound_steps.Goals as goal
-
-pub lowered_clean-requires : goal.lowered_clean-requires
-lowered_clean-requires c = fits_lower c.args.program.now.units c.args.program.now.globals c.unit.result.now c.unit.ensures.fits c.unit.ensures.shares
