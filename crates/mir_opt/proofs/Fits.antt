@@ -115,7 +115,7 @@ module _ (globals : List (List ℕ)) (sources targets : List UnitShape) (program
       let m = kept_at n lt in
       names_at targets n ∙ ap (option_map (λ (u : UnitShape). u.name)) m.target_at ∙ ap Some m.kept.keeps.name ∙ sym (names_at sources n ∙ ap (option_map (λ (u : UnitShape). u.name)) m.source_at)
 
-  -- there are no more names of targets than sources
+  -- a number that a name of the target has is that of a unit of the source
   within : (n : ℕ) → n < length (names_of targets) → n < length sources
   within n lt = omega (arith, lt, names_long targets, targets_long)
 
@@ -128,14 +128,14 @@ module _ (globals : List (List ℕ)) (sources targets : List UnitShape) (program
 
   -- ---- the targets are a program
 
-  -- their names differ
+  -- the units of the target have different names
   names_differ : AllDiffer (names_of targets)
   names_differ i j lt lt' same =
       let a = within i lt in
       let b = within j lt' in
       program.names i j (omega (arith, a, names_long sources)) (omega (arith, b, names_long sources)) (sym (same_name i a) ∙ same ∙ same_name j b)
 
-  -- their bodies fit
+  -- each body of the target fits into it: its jumps, calls and receives are as those of a program are
   kept_fits : (n : ℕ) (unit : UnitShape) → slice_get targets n ≡ Some unit → BodyFits targets unit.body
   kept_fits n unit at =
       let lt : n < length sources = omega (arith, slice_get_within targets n unit at, targets_long) in

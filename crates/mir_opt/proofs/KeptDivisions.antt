@@ -64,7 +64,7 @@ names_of_first to vars more new grow (x ∷ xs) within names = (
 
 -- ---- one unit
 
--- numbers that keep their order are different where they were
+-- a function that keeps the order of two numbers gives them one value only where they are one
 apart_by_order : (f : ℕ → ℕ) (p q : ℕ) → (p < q → f p < f q) → (q < p → f q < f p) → f p ≡ f q → p ≡ q
 apart_by_order f p q up down same = elim (cases_lt p q) [
   | inl lt ↦ absurd (let less = up lt in omega (arith, less, same))

@@ -89,8 +89,8 @@ pub record LinksDivision (source : UnitShape) (unit : MoveUnit) : Type 0 where
 
 -- ---- all units
 
--- each unit of the source has its steps, and the unit of the target of its number is the layout of their last graph;
--- there are no others, and the globals are those of the source
+-- each unit of the source has its steps, and the unit of its number in the target is the layout of
+-- their last graph; the target has no other units, and the globals of the source
 pub record AllLinked {T S : Type 0} (graph_of : T → S → GraphShape) (last : S)
     (Links : UnitShape → T → Type 0)
     (source : ProgramShape) (units : List T) (target : ProgramShape) : Type 0 where

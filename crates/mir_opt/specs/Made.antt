@@ -90,7 +90,7 @@ pub record FrontMade (source : UnitShape) (made : FrontGraphs) : Type 0 where
   pub start : LoweredMade source made.start
   pub values : ValuesMade made.start.cleaned made.values
 
--- and those after it
+-- the steps after code motion, from the moved graph on
 pub record BackMade (moved : GraphShape) (made : Back) : Type 0 where
   pub back : IsBack moved made.recopied made.rounds.graphs made.swept
   pub recopied_keeps : GraphKeeps moved made.recopied

@@ -11,7 +11,8 @@ use mir_base::{Memory, Unit as MirUnit};
 use std::alloc::Global;
 use value_number::number;
 
-/// Makes the graph of a unit, cleans it, and replaces what is known. It fails only with `Memory`.
+/// Makes the graphs of a unit up to code motion: lowered, with clean jumps, folded, numbered, with copies replaced. It
+/// fails only with `Memory`.
 pub(crate) fn make_front(alloc: Global, source: &MirUnit) -> Result<FrontGraphs, Memory>
     requires { CanLower source.now.shared source.now.body }
     ensures { IfOk result (FrontMade source.now) }

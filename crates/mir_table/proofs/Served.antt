@@ -83,18 +83,18 @@ whole_text (Some rest) text bytes taken end = sym (taken ∙ ap (λ (l : List �
 
 -- ---- what was written
 
--- of a text that is also this
+-- where each text that is A is B too, what was written as A was written as B
 pub written_as : (A B : List ℕ → Type 0) (out err : Stream) (status : ℕ) → ((text : List ℕ) → A text → B text) → HasWritten A out err status → HasWritten B out err status
 written_as A B out err status same (written_whole text shows gave quiet is) = written_whole text (same text shows) gave quiet is
 written_as A B out err status same (written_in_part text shows gave ended) = written_in_part text (same text shows) gave ended
 written_as A B out err status same (not_written still ended) = not_written still ended
 
--- of a text that was made
+-- what was made and shows this is the text that shows this
 pub made_is : (made : Result (Vec ℕ Global) AllocError) (Shows : List ℕ → Type 0) → IfOk made (λ text. Shows text.items) → (text : List ℕ) → IsMade made text → Shows text
 made_is (Ok made) Shows shows text is = subst Shows is shows
 made_is (Err refusal) Shows shows text is = absurd is
 
--- which this one is
+-- a text that was made is the one that was made
 pub whole_made : (made : Result (Vec ℕ Global) AllocError) (text : Vec ℕ Global) → made ≡ Ok text → IsMade made text.items
 whole_made made text is = subst (λ (r : Result (Vec ℕ Global) AllocError). IsMade r text.items) (sym is) refl
 
@@ -245,7 +245,7 @@ module _ (call : Call) (p : Promises call) (asked : AsksFor Divisions call.words
 
 -- ---- tables of single commands
 
--- what they are made of
+-- what tables with a word are made of, in the reply to `divisions`
 pub further_subject : (f : Further) (call : Call) (trail : MoveTrail) → HasDivided call trail → HasSubject (kind_from f) trail.source
 further_subject further.Divisions call trail has = (trail, record { source = refl; divides = has.improves })
 further_subject further.Tails call trail has = tt

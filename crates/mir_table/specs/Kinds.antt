@@ -54,7 +54,8 @@ HasSubject Bounds program = Unit {0}
 HasSubject Wanted program = Unit {0}
 
 -- the text is that of the tables
-abbrev pub ShowsKind : (kind : TableKind) (program : ProgramShape) → HasSubject kind program → List ℕ → Type 0
+abbrev pub ShowsKind : (kind : TableKind) (program : ProgramShape) → HasSubject kind program
+    → List ℕ → Type 0
 ShowsKind Optimise program subject text = ShowsTables subject.0 text
 ShowsKind Divisions program subject text = ShowsDivisions subject.0 text
 ShowsKind Tails program subject text = ShowsTails program text

@@ -29,7 +29,10 @@ AsksFor command words = command_of words ≡ Some command
 
 -- how the program is called
 abbrev pub table_usage : Complaint
-table_usage = record { status = 1; line = codes "usage: mir_tables [optimise | divisions | tails | join | bounds | wanted]\n" }
+table_usage = record {
+  status = 1;
+  line = codes "usage: mir_tables [optimise | divisions | tails | join | bounds | wanted]\n";
+}
 
 -- the call ended with this complaint
 pub record EndedBy (status : ℕ) (err : Stream) (complaint : Complaint) : Type 0 where
@@ -43,7 +46,8 @@ pub record EndedBy (status : ℕ) (err : Stream) (complaint : Complaint) : Type 
 pub data HasWritten (Shows : List ℕ → Type 0) (out err : Stream) (status : ℕ) : Type 0 where
   written_whole : (text : List ℕ) → Shows text → Gave out text → Untouched err → status ≡ 0
       → HasWritten Shows out err status
-  written_in_part : (text : List ℕ) → Shows text → GavePart out text → EndedBy status err write_fault
+  written_in_part : (text : List ℕ) → Shows text → GavePart out text
+      → EndedBy status err write_fault
       → HasWritten Shows out err status
   not_written : Untouched out → EndedBy status err out_of_memory → HasWritten Shows out err status
 
@@ -73,9 +77,11 @@ pub record HasRefusedText (call : TableCall) : Type 0 where
 pub data CallEnded (kind : TableKind) (call : TableCall) : Type 0 where
   tables_written : HasTables kind call → CallEnded kind call
   text_refused : HasRefusedText call → Untouched call.out → CallEnded kind call
-  source_failed : HasFailed call.source → EndedBy call.status call.err read_fault → Untouched call.out
+  source_failed : HasFailed call.source → EndedBy call.status call.err read_fault
+      → Untouched call.out
       → CallEnded kind call
-  memory_failed : EndedBy call.status call.err out_of_memory → Untouched call.out → CallEnded kind call
+  memory_failed : EndedBy call.status call.err out_of_memory → Untouched call.out
+      → CallEnded kind call
 
 -- the call ends with the status of this complaint and so it is told, unless a read fails or memory runs out
 pub record EndsWith (call : TableCall) (complaint : Complaint) : Type 0 where
@@ -90,20 +96,26 @@ SourceHas call text = call.source.old ≡ Some text
 pub record TextPromises (kind : TableKind) (call : TableCall) : Type 0 where
   pub most : TakesAtMost call.source.old call.source.new (most_bytes + 1)
   pub ended : CallEnded kind call
-  -- Where the text is that of a program, its tables are written, unless a device fails or memory runs out.
-  pub complete : (text : List ℕ) (program : ProgramShape) → SourceHas call text → IsShortTextOf text program
+  -- Where the text is that of a program, its tables are written, unless a device fails or memory
+  -- runs out.
+  pub complete : (text : List ℕ) (program : ProgramShape) → SourceHas call text
+      → IsShortTextOf text program
       → Contains (0 ∷ 6 ∷ 7 ∷ 8 ∷ []) call.status
-  -- Where it is of no program, it is refused by the first thing that is wrong, unless the device fails or memory runs
+  -- Where it is of no program, it is refused by the first thing that is wrong, unless the device
+  -- fails or memory runs
   -- out.
-  pub refuses : (text : List ℕ) (complaint : Complaint) → SourceHas call text → IsRefused text complaint
+  pub refuses : (text : List ℕ) (complaint : Complaint) → SourceHas call text
+      → IsRefused text complaint
       → EndsWith call complaint
   pub statuses : call.status ≤ 8
 
 -- all that holds of a call with these words, whatever its source and sinks
 pub record TablePromises (words : List (List ℕ)) (call : TableCall) : Type 0 where
   pub text : (kind : TableKind) → kind_of words ≡ Some kind → TextPromises kind call
-  -- With words that ask for no tables nothing is read and nothing written but how the program is called.
-  pub usage : kind_of words ≡ None → EndedBy call.status call.err table_usage × Untouched call.source
+  -- With words that ask for no tables nothing is read and nothing written but how the program is
+  -- called.
+  pub usage : kind_of words ≡ None
+      → EndedBy call.status call.err table_usage × Untouched call.source
       × Untouched call.out
   pub statuses : call.status ≤ 8
 

@@ -17,7 +17,8 @@ copy_head vars number copy =
 -- the lines of a copy, where there is one: what it is, and before which nodes it holds
 abbrev pub copy_lines : List (List ℕ) → List (List Bool) → ℕ → Option VarCopy → List ℕ
 copy_lines vars held number None = []
-copy_lines vars held number (Some copy) = copy_head vars number copy ++ bits_line held number (codes "held")
+copy_lines vars held number (Some copy) =
+    copy_head vars number copy ++ bits_line held number (codes "held")
 
 -- the lines of the first copies of a table, of which there are so many
 abbrev pub copies_below : List (List ℕ) → List VarCopy → List (List Bool) → ℕ → List ℕ

@@ -77,12 +77,14 @@ lazy_lines placement rows i =
 -- all of its rows
 abbrev pub motion_lines : Placement → MotionRows → ℕ → List ℕ
 motion_lines placement rows i =
-    safe_lines rows i ++ late_lines rows.places.late i ++ busy_lines rows.places i ++ lazy_lines placement rows i
+    safe_lines rows i ++ late_lines rows.places.late i ++ busy_lines rows.places i
+    ++ lazy_lines placement rows i
 
 -- the lines of expression i, where there is one
 abbrev pub expression_lines : UnitTrail → MotionRows → ℕ → Option Expr → List ℕ
 expression_lines unit rows i None = []
-expression_lines unit rows i (Some e) = expression_head unit i e ++ motion_lines unit.placement rows i
+expression_lines unit rows i (Some e) =
+    expression_head unit i e ++ motion_lines unit.placement rows i
 
 -- the lines of the first expressions, of which there are so many
 abbrev pub expressions_below : UnitTrail → MotionRows → ℕ → List ℕ

@@ -46,17 +46,31 @@ pub record AreMotionLines (placement : Placement) (rows : MotionRows)
 
 -- the rows of the busy placement
 abbrev pub busy_of : MotionLines → Busy
-busy_of lines = record { uses = lines.safe.uses; available = lines.safe.available; anticipatable = lines.safe.anticipatable; earliest = lines.safe.earliest }
+busy_of lines = record {
+  uses = lines.safe.uses;
+  available = lines.safe.available;
+  anticipatable = lines.safe.anticipatable;
+  earliest = lines.safe.earliest;
+}
 
 -- those of how far expressions can be delayed; the rows of where these are used are those of the busy placement
 abbrev pub late_of : MotionLines → Late
 late_of lines =
-    record { uses = lines.safe.uses; delayed = lines.late.delayed; latest = lines.late.latest; isolated = lines.late.isolated }
+    record {
+      uses = lines.safe.uses;
+      delayed = lines.late.delayed;
+      latest = lines.late.latest;
+      isolated = lines.late.isolated;
+    }
 
 -- all that code motion found out
 abbrev pub rows_of_lines : MotionLines → MotionRows
 rows_of_lines lines = record {
-  places = record { busy = busy_of lines; late = late_of lines; busy_held = record { edges = lines.placed.busy_held } };
+  places = record {
+    busy = busy_of lines;
+    late = late_of lines;
+    busy_held = record { edges = lines.placed.busy_held };
+  };
   bounds = record { kills = lines.safe.kills; held = record { edges = lines.placed.held } };
 }
 

@@ -14,7 +14,8 @@ use Rattle.table_text.specs.Rows.{HaveBit, bits_line}
 -- the number of a pattern, and the pattern
 abbrev pub pattern_head : List (List ℕ) → ℕ → Pattern → List ℕ
 pattern_head vars number pattern =
-    codes "pattern" ++ field (decimal number) ++ codes " " ++ assigned_text vars pattern.var pattern.rhs ++ codes "\n"
+    codes "pattern" ++ field (decimal number) ++ codes " "
+    ++ assigned_text vars pattern.var pattern.rhs ++ codes "\n"
 
 -- the lines of a pattern, where there is one: what it is, and where it is blocked, delayed and inserted
 abbrev pub pattern_lines : List (List ℕ) → DelayedPatterns → ℕ → Option Pattern → List ℕ
@@ -49,7 +50,12 @@ pub record IsPatternsText (graph : GraphShape) (text : List ℕ) : Type 0 where
 
 -- what was found, where its rows are those of the lines
 abbrev pub found_of : PatternLines → DelayedPatterns
-found_of lines = record { table = lines.table; blocked = lines.blocked; delayed = lines.delayed; inserted = lines.inserted }
+found_of lines = record {
+  table = lines.table;
+  blocked = lines.blocked;
+  delayed = lines.delayed;
+  inserted = lines.inserted;
+}
 
 -- each of the rows has a bit of this number
 pub record HavePatternBit (found : DelayedPatterns) (bit : ℕ) : Type 0 where

@@ -41,7 +41,8 @@ became_skip before after n = not (is_skip (slice_get before n)) && is_skip (slic
 -- the number and the name of a variable
 abbrev pub variable_line : List (List ℕ) → ℕ → List ℕ
 variable_line vars number =
-    codes "variable" ++ field (decimal number) ++ codes " " ++ slice_index_or vars number [] ++ codes "\n"
+    codes "variable" ++ field (decimal number) ++ codes " " ++ slice_index_or vars number []
+    ++ codes "\n"
 
 -- the lines of the first variables, of which there are so many, each with the nodes before which it is live
 abbrev pub variables_below : List (List ℕ) → List (List Bool) → ℕ → List ℕ

@@ -26,7 +26,8 @@ term_text vars (keys.Binary op a b) = field (op_text op) ++ field (decimal a) ++
 -- the line of the term of this number, where there is one
 abbrev pub term_line : List (List ℕ) → ℕ → Option TermKey → List ℕ
 term_line vars number None = []
-term_line vars number (Some key) = codes "term" ++ field (decimal number) ++ term_text vars key ++ codes "\n"
+term_line vars number (Some key) =
+    codes "term" ++ field (decimal number) ++ term_text vars key ++ codes "\n"
 
 -- the lines of the first terms of a table, of which there are so many
 abbrev pub terms_below : List (List ℕ) → List TermKey → ℕ → List ℕ
@@ -41,7 +42,8 @@ number_field (Some number) = field (decimal number)
 -- the line of a node with this root and these numbers
 abbrev pub numbers_line : ℕ → ℕ → List (Option ℕ) → List ℕ
 numbers_line node root numbers =
-    codes "terms" ++ field (decimal node) ++ field (decimal root) ++ flat_map number_field numbers ++ codes "\n"
+    codes "terms" ++ field (decimal node) ++ field (decimal root) ++ flat_map number_field numbers
+    ++ codes "\n"
 
 -- the line of the node of this number, where there is one
 abbrev pub terms_line : ℕ → Option TermsAt → List ℕ

@@ -20,5 +20,6 @@ pub record IsUnitAt (names : List (List ℕ)) (units : List UnitTrail) (number :
 -- the text is that of each unit of the trail in turn
 pub record ShowsTables (trail : Trail) (text : List ℕ) : Type 0 where
   pub units : List ℕ
-  pub are : InTurn (IsUnitAt (names_of_units trail.source.units) trail.units) (length trail.units) units
+  pub are : InTurn (IsUnitAt (names_of_units trail.source.units) trail.units)
+      (length trail.units) units
   pub text_is : text ≡ codes "tables 1\n" ++ units

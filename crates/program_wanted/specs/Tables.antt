@@ -4,4 +4,9 @@ use Rattle.program_wanted.specs.Demands.{Demands}
 
 -- the lists of the tables
 abbrev pub demands_of : Tables → Demands
-demands_of tables = record { globals = tables.globals.items; arguments = tables.arguments.items; backs = tables.backs.items }
+demands_of
+    tables = record {
+      globals = tables.globals.items;
+      arguments = tables.arguments.items;
+      backs = tables.backs.items;
+    }

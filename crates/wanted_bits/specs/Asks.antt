@@ -22,7 +22,8 @@ into_bits (Some y) behind = behind y
 
 -- what is asked for of what a call hands back: of each of so many globals, and then of the result
 abbrev pub back_list : ℕ → Option ℕ → (ℕ → ℕ) → List ℕ
-back_list shared into behind = map (kept_bits into behind) (shared_vars shared) ++ into_bits into behind ∷ []
+back_list shared into behind =
+    map (kept_bits into behind) (shared_vars shared) ++ into_bits into behind ∷ []
 
 -- what a node asks for, where these are behind it
 abbrev pub ask_past : ℕ → Option Node → List ℕ → Option (List ℕ)

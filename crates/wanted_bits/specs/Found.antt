@@ -28,7 +28,8 @@ behind_bits wanted (Some (Assign x rhs next)) = wanted next x
 behind_bits wanted (Some node) = 0
 
 -- by the least numbers they are so many at each node, where the shifts shift these back
-pub record AreBehind (graph : GraphShape) (asked : Asked) (backs : List (Option Shift)) (behind : List ℕ)
+pub record AreBehind (graph : GraphShape) (asked : Asked) (backs : List (Option Shift))
+    (behind : List ℕ)
     : Type 0 where
   pub long : length behind ≡ length graph.nodes
   pub few : HasFew behind
@@ -74,7 +75,8 @@ narrowed_by asked back k node = node
 -- the list has what each node becomes by these
 abbrev pub AreListed : GraphShape → Asked → List (Option Shift) → List ℕ → List Node → Type 0
 AreListed graph asked backs behind nodes = (n : ℕ) → slice_get nodes n
-    ≡ option_map (narrowed_by asked (back_in backs n) (number_at behind n)) (slice_get graph.nodes n)
+    ≡ option_map (narrowed_by asked (back_in backs n) (number_at behind n))
+    (slice_get graph.nodes n)
 
 -- the nodes by the shifts that hold and the least wanted bits
 pub record AreFoundNodes (asked : Asked) (graph : GraphShape) (nodes : List Node) : Type 0 where

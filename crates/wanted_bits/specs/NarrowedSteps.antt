@@ -72,9 +72,11 @@ pub record EntriesAgree (shared : ℕ) (globals arguments : ℕ → ℕ) (e e' :
   pub globals_are : AreGlobals shared e.globals
   pub globals_are' : AreGlobals shared e'.globals
   pub on_globals : (x : ℕ) → x < shared
-      → AgreeBelow (globals x) (slice_index_or e.globals x (pos 0)) (slice_index_or e'.globals x (pos 0))
+      → AgreeBelow (globals x) (slice_index_or e.globals x (pos 0))
+      (slice_index_or e'.globals x (pos 0))
   pub on_arguments : (i : ℕ)
-      → AgreeBelow (arguments i) (slice_index_or e.arguments i (pos 0)) (slice_index_or e'.arguments i (pos 0))
+      → AgreeBelow (arguments i) (slice_index_or e.arguments i (pos 0))
+      (slice_index_or e'.arguments i (pos 0))
 
 -- and what a return hands back
 pub record AnswersAgree (shared : ℕ) (left : ℕ → ℕ) (result : ℕ) (a a' : Answer) : Type 0 where
@@ -82,14 +84,16 @@ pub record AnswersAgree (shared : ℕ) (left : ℕ → ℕ) (result : ℕ) (a a'
   pub is' : IsCallAnswer shared a'
   pub on_result : AgreeBelow result a.value a'.value
   pub on_globals : (x : ℕ) → x < shared
-      → AgreeBelow (left x) (slice_index_or a.globals x (pos 0)) (slice_index_or a'.globals x (pos 0))
+      → AgreeBelow (left x) (slice_index_or a.globals x (pos 0))
+      (slice_index_or a'.globals x (pos 0))
 
 -- as far as a call takes it, whose answer goes to this variable, and behind which so many bits are wanted
 pub record AnswersServe (shared : ℕ) (into : Option ℕ) (behind : ℕ → ℕ)
     (a a' : Answer) : Type 0 where
   pub on_result : (y : ℕ) → into ≡ Some y → AgreeBelow (behind y) a.value a'.value
   pub on_globals : (x : ℕ) → x < shared → is_into x into ≡ false
-      → AgreeBelow (behind x) (slice_index_or a.globals x (pos 0)) (slice_index_or a'.globals x (pos 0))
+      → AgreeBelow (behind x) (slice_index_or a.globals x (pos 0))
+      (slice_index_or a'.globals x (pos 0))
 
 -- two transitions that show the same as far as it is asked for, the second evaluating no more operators, to frames that
 -- are related by S
@@ -98,9 +102,13 @@ abbrev pub AlikeBy : Asked → ℕ → (ℕ → ℕ → ℕ) → (Frame → Fram
 AlikeBy asked shared wanted S (Continues n f) (Continues m g) = (m ≤ n) × S f g
 AlikeBy asked shared wanted S (Prints v f) (Prints w g) = (v ≡ w) × S f g
 AlikeBy asked shared wanted S (Calls unit entry into f) (Calls unit' entry' into' g) =
-    (unit ≡ unit') × (into ≡ into') × EntriesAgree shared (asked.globals unit) (asked.arguments unit) entry entry'
-    × ((a a' : Answer) → IsCallAnswer shared a → IsCallAnswer shared a' → AnswersServe shared into (wanted f.place) a a' → S (resumed into a f) (resumed into' a' g))
-AlikeBy asked shared wanted S (Returns answer) (Returns answer') = AnswersAgree shared asked.left asked.result answer answer'
+    (unit ≡ unit') × (into ≡ into')
+    × EntriesAgree shared (asked.globals unit) (asked.arguments unit) entry entry'
+    × ((a a' : Answer) → IsCallAnswer shared a → IsCallAnswer shared a'
+    → AnswersServe shared into (wanted f.place) a a'
+    → S (resumed into a f) (resumed into' a' g))
+AlikeBy asked shared wanted S (Returns answer) (Returns answer') =
+    AnswersAgree shared asked.left asked.result answer answer'
 AlikeBy asked shared wanted S (Traps kind n) (Traps kind' m) = (kind ≡ kind') × (m ≤ n)
 AlikeBy asked shared wanted S _ _ = ⊥
 
@@ -113,7 +121,8 @@ pub record Beside (nodes : List Node) (received : List ℕ) (shifts : ℕ → �
   pub agree : (x : ℕ) → AgreeBelow (wanted f.place x) (f.values x) (g.values x)
   pub hold : ShiftsHold (shifts f.place) f.values
   pub first : f.place ≡ 0 → (i x : ℕ) → slice_get received i ≡ Some x
-      → AgreeBelow (wanted 0 x) (slice_index_or f.arguments i (pos 0)) (slice_index_or g.arguments i (pos 0))
+      → AgreeBelow (wanted 0 x) (slice_index_or f.arguments i (pos 0))
+      (slice_index_or g.arguments i (pos 0))
   pub fits : FrameFits f
   pub fits' : FrameFits g
 

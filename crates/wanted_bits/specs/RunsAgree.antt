@@ -16,7 +16,8 @@ abbrev pub frame_past : (Frame → List Answer → Option Frame) → Transition 
 frame_past go (Continues counted next) answers = go next answers
 frame_past go (Prints value next) answers = go next answers
 frame_past go (Calls unit entry into next) [] = None
-frame_past go (Calls unit entry into next) (answer ∷ answers) = go (resumed into answer next) answers
+frame_past go (Calls unit entry into next) (answer ∷ answers) =
+    go (resumed into answer next) answers
 frame_past go (Returns answer) answers = None
 frame_past go (Traps kind counted) answers = None
 

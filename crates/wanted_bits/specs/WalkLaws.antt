@@ -175,8 +175,11 @@ long_none (Some y) bits = length-set bits y 0
 -- what a node wants that assigns no right side
 abbrev pub read_bits : GraphShape → Asked → Node → ℕ → ℕ
 read_bits graph asked (Assign y rhs next) x = 0
-read_bits graph asked (Call into unit operands next) x = max (wanted_global graph.shared (asked.globals unit) x) (wanted_among (asked.arguments unit) 0 operands x)
-read_bits graph asked (Return a) x = max (wanted_global graph.shared asked.left x) (wanted_of a asked.result x)
+read_bits graph asked (Call into unit operands next) x = max
+    (wanted_global graph.shared (asked.globals unit) x)
+    (wanted_among (asked.arguments unit) 0 operands x)
+read_bits graph asked (Return a) x =
+    max (wanted_global graph.shared asked.left x) (wanted_of a asked.result x)
 read_bits graph asked node x = among whole_width x (node_reads graph node)
 
 -- what its right side wants, of which so many bits are

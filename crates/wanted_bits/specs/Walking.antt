@@ -105,7 +105,8 @@ bits_past graph asked back (Some node) bits = bits_through graph asked back node
 abbrev pub before_list : GraphShape → Asked → (ℕ → Option Shift) → List ℕ → List ℕ → List ℕ
 before_list graph asked back [] bits = bits
 before_list graph asked back (n ∷ list) bits =
-    bits_past graph asked (back n) (slice_get graph.nodes n) (before_list graph asked back list bits)
+    bits_past graph asked (back n) (slice_get graph.nodes n)
+    (before_list graph asked back list bits)
 
 -- what a list says that the right side of a node shifts back
 abbrev pub back_in : List (Option Shift) → ℕ → Option Shift

@@ -29,7 +29,8 @@ pub record IsWantedFlow {L : Type 0} (f : WantedFlow L) : Type 0 where
 
 -- the flow as the solver sees it
 abbrev pub wanted_net_of : {L : Type 0} → WantedFlow L → Net (List ℕ)
-wanted_net_of f = wanted_net f.graph.now (asked_by f.graph.now.shared f.around.now) (back_in f.backs.now) f.blocks.now.lists
+wanted_net_of f = wanted_net f.graph.now (asked_by f.graph.now.shared f.around.now)
+    (back_in f.backs.now) f.blocks.now.lists
     f.between.now.edges.items f.between.now.firsts.items
 
 -- it keeps the laws of flows
@@ -44,7 +45,8 @@ net_over graph asked crossed back = wanted_net graph asked back crossed.blocks.l
     crossed.between.edges.items crossed.between.firsts.items
 
 -- a list for each block, the least solution
-pub record AreLeastBehind (graph : GraphShape) (asked : Asked) (crossed : Crossed) (back : ℕ → Option Shift)
+pub record AreLeastBehind (graph : GraphShape) (asked : Asked) (crossed : Crossed)
+    (back : ℕ → Option Shift)
     (values : List (List ℕ)) : Type 0 where
   pub long : length values ≡ length crossed.blocks.lists
   pub sizes : AreOfSize length (net_over graph asked crossed back) values

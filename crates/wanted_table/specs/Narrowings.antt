@@ -16,7 +16,8 @@ MakesNarrowed number graph made = IsNarrowed graph made
 
 -- the name of a unit and its first graph, among units of these names
 abbrev pub text_begun : List (List ℕ) → PassSteps → List ℕ
-text_begun names steps = unit_line steps.lowered.name ++ stage_text names (codes "lower") steps.lowered
+text_begun names steps =
+    unit_line steps.lowered.name ++ stage_text names (codes "lower") steps.lowered
 
 -- the same with its second graph
 abbrev pub text_before : List (List ℕ) → PassSteps → List ℕ
@@ -33,7 +34,8 @@ text_behind names steps =
 pub record ShowsSteps (names : List (List ℕ)) (steps : PassSteps) (text : List ℕ) : Type 0 where
   pub lines : List ℕ
   pub are : AreWantedLines steps.cleaned lines
-  pub text_is : text ≡ text_before names steps ++ codes "pass wanted\n" ++ lines ++ text_behind names steps
+  pub text_is : text
+      ≡ text_before names steps ++ codes "pass wanted\n" ++ lines ++ text_behind names steps
 
 -- the text is that of the unit of this number among these: of the graphs that the pass makes of it, and of what is
 -- wanted before the nodes of its cleaned graph

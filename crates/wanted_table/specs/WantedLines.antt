@@ -13,7 +13,8 @@ row_text row vars = flat_map (λ x. field (decimal (bits_at row x))) (range_with
 
 -- the line of a node before which so many are wanted
 abbrev pub wanted_line : ℕ → ℕ → List ℕ → List ℕ
-wanted_line vars node row = codes "wanted" ++ field (decimal node) ++ row_text row vars ++ codes "\n"
+wanted_line vars node row =
+    codes "wanted" ++ field (decimal node) ++ row_text row vars ++ codes "\n"
 
 -- the lines of the first so many nodes
 abbrev pub lines_of : ℕ → List (List ℕ) → ℕ → List ℕ
