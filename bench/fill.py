@@ -8,12 +8,12 @@ A cell is filled by the head of its column and the workload and size of its row:
 `x time` and `x memory`; `move: s` and `move: MB`, and the same of `optimise`, of the workload with this command behind
 its name; `mir s`, `opt s` and `mir / opt`, where `opt` is here. All other cells stay, and so does the text but for what
 the start takes and the sentence on minor page faults. With `--counts` it measures no time and counts instructions by
-callgrind: `Instructions`, `x at half`, `move: millions` and the like, the columns of the commands beside `move`, and
-the sentence on the other workloads. With `--all` it does both, one after the other, and before them has the scripts
-beside it put in what they count and measure (`fill_scripts.py`), so that no number of the page is older than another;
-csmith draws N programs a set, and the tests of GCC are those of FOLDER. With `--show` the new page is printed and not written. The program is the one that
-the gate built where no other is named; of each call the least time of N is taken, the greatest peak and the most page
-faults. It runs on Linux alone, with Python's standard library.
+callgrind: `Instructions`, `x at half`, `move: millions` and the like, and the sentence on the other workloads. With
+`--all` it does both, one after the other, and before them has the scripts beside it put in what they count and measure
+(`fill_scripts.py`), so that no number of the page is older than another; csmith draws N programs a set, and the tests of
+GCC are those of FOLDER. With `--show` the new page is printed and not written. The program is the one that the gate built
+where no other is named; of each call the least time of N is taken, the greatest peak and the most page faults. It runs on
+Linux alone, with Python's standard library.
 """
 
 import argparse
@@ -84,17 +84,13 @@ class Meter:
     def counted(self, heads: list[str], place: int, name: str, size: int, old: str) -> str:
         """The cell of instructions in this column of a row; the old one where it has none."""
         head, before = heads[place], heads[place - 1]
-        command = re.fullmatch(r'(move|optimise): millions', head)
+        command = re.fullmatch(r'(move|ranges|divisions|optimise): millions', head)
         if command:
             return f'{self.millions(f"{name}-{command[1]}", size):,.1f}'
         if head == 'x' and before == 'optimise: millions':
             return self.against_half(f'{name}-optimise', size)
         if 'stages' in heads and size not in [case.size for case in self.workloads[name].counted()]:
             return old
-        if heads[2:4] == ['move', 'ranges']:
-            of = f'{name}-{head or before}'
-            number = self.millions(of, size)
-            return f'{number:,.1f}' if head else f'{number / self.millions(f"{name}-move", size):.2f}'
         if head == 'Instructions':
             return f'{self.millions(name, size):,.1f}'
         if head == 'x at half':
@@ -103,7 +99,8 @@ class Meter:
             return f'{self.millions(name, size) / self.millions(f"{name}, move", size):.2f}'
         if head == 'x without bytes':
             return f'{self.millions(name, size, True) / self.millions(f"{name}, move", size, True):.2f}'
-        return f'{self.millions(f"{name}, move", size):,.1f}' if head in ('move', 'stages') else old
+        has_beside = head in ('move', 'stages') and self.workloads[name].beside
+        return f'{self.millions(f"{name}, move", size):,.1f}' if has_beside else old
 
     def cell(self, head: str, name: str, size: int, old: str) -> str:
         """The cell of this head in the row of a workload and a size; the old one where it is nothing measured here."""

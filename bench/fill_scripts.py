@@ -6,7 +6,10 @@ import sys
 from pathlib import Path
 
 FOLDER = Path(__file__).resolve().parent
-DRAWN = ('divisions', 'wanted', 'chains')
+# The words behind which each row of drawn programs is made, by how the row begins.
+DRAWN = {'`divisions.py`': ['divisions.py'], '`wanted.py`': ['wanted.py'],
+         '`wanted.py`, `demanded`': ['wanted.py', '--words', 'passes', 'demanded'],
+         '`wanted.py`, `bounds`': ['wanted.py', '--words', 'passes', 'bounds'], '`chains.py`': ['chains.py']}
 MOST_ROUNDS = 16
 
 
@@ -24,11 +27,12 @@ def number(text: str, what: str) -> str:
 
 def run_beside(page: str, mir: str) -> str:
     """The page with the table of drawn programs that are run beside what is made of them."""
-    for name in DRAWN:
-        told = said(mir, f'{name}.py').rstrip().split('\n')[-1]
+    for name, words in DRAWN.items():
+        told = said(mir, *words).rstrip().split('\n')[-1]
         cells = [number(told, what) for what in ('runs', 'ended', 'trapped', 'running', 'ended with', 'differences')]
-        row = re.compile(rf'^(\| `{name}\.py` \| [^|]* \|).*$', re.M)
-        page = row.sub(lambda found: found[1] + ''.join(f' {cell} |' for cell in cells), page)
+        row = re.compile(rf'^(\| {re.escape(name)} \| )[\d,]+([^|]* \|).*$', re.M)
+        drawn = number(told, 'programs')
+        page = row.sub(lambda found: found[1] + drawn + found[2] + ''.join(f' {cell} |' for cell in cells), page)
     return page
 
 

@@ -2,19 +2,24 @@
 """Draws texts at the limits of the language, shape by shape, calls `mir` on each under every command, and tells what took
 longest and what took most memory.
 
-    bench/hostile.py [--mir PATH] [--of N] [--draws N] [--seed N] [--seconds N] [--memory MB] [--words WORDS ..] [SHAPE ..]
+    bench/hostile.py [--mir PATH] [--of N] [--draws N] [--seed N] [--seconds N] [--memory MB] [--words WORDS .. | --chains]
+                     [SHAPE ..]
 
-With no shape named, all are drawn, and with no words all commands are called. With `--of 4` each text has a quarter of
-the size that its shape may have. A call is stopped after N processor seconds (60) or where it takes more than so much
-memory (8,000 MB), and its line says so. The last lines name the slowest call and the largest, and those that took more
-than 10 seconds or 1,000 MB and wrote no more than 64 MB: what a definition itself makes long is told by its bytes.
+With no shape named, all are drawn, and with no words all commands are called. Words `passes 64` are a chain of as many
+passes as there may be: of all in turn, of one that is named behind them, or drawn by a number that stands there; with
+`--chains` each of these is called, and three draws. With `--of 4` each text has a quarter of the size that its shape may
+have. A call is stopped after N processor seconds (60) or where it takes more than so much
+memory (8,000 MB), and its line says so. Behind the lines are a row for each shape, as README.md beside this file has it,
+the slowest call and the largest, and those that took more than 10 seconds or 1,000 MB and wrote no more than 64 MB: what
+a definition itself makes long is told by its bytes.
 
-It runs on Linux alone, with Python's standard library. README.md beside this file has what it told last.
+It runs on Linux alone, with Python's standard library.
 """
 
 import argparse
 import os
 import random
+import re
 import signal
 import sys
 import tempfile
@@ -31,12 +36,14 @@ BYTES, INSTRUCTIONS, UNITS = 1_048_576, 16_384, 256
 
 # The commands, but for `trial`, which reads no text.
 COMMANDS = ('optimise', 'stages', 'move', 'ranges', 'divisions', 'tails', 'join', 'thorough', 'passes wanted',
-            'passes fold', 'passes number', 'passes copies', 'passes sink', 'passes bounds', 'passes demanded',
-            'passes 64', 'run 1000000 7 3')
+            'passes fold', 'passes number', 'passes copies', 'passes sink', 'passes comparisons',
+            'passes bounds', 'passes demanded', 'passes 64', 'run 1000000')
 
-# What `passes 64` stands for: as many passes as there may be, each of them in turn.
-PASSES = 'tails join optimise clean fold number copies motion divisions sink bounds wanted demanded called'.split()
-CHAIN = ['passes', *(PASSES * 5)[:64]]
+PASSES = 'tails join optimise clean fold number copies motion divisions sink comparisons bounds wanted demanded called'.split()
+
+# The most passes of a chain, and the chains of so many: all in turn, each alone, and three that are drawn.
+MOST_PASSES = 64
+CHAINS = [f'passes {MOST_PASSES} {of}'.rstrip() for of in ['', *PASSES, 1, 2, 3]]
 
 # A call that takes more, and writes no more, is named at the end.
 MOST_SECONDS, MOST_BYTES, MOST_WRITTEN = 10, 1_000_000_000, 64_000_000
@@ -167,6 +174,19 @@ def end_of(status: int) -> str:
     return {0: '', 4: 'still runs', 8: 'out of memory'}.get(os.WEXITSTATUS(status), f'status {os.WEXITSTATUS(status)}')
 
 
+def words_of(command: str, text: str) -> list[str]:
+    """The words of a command for a text: a run gets as many inputs as it wants, and some words stand for a chain of as many
+    passes as there may be."""
+    words = command.split()
+    if words[0] == 'run':
+        return [*words, *['7'] * re.search(r'begin\s+((?:receive .*\s+)*)', text)[1].count('receive')]
+    if words[:2] != ['passes', str(MOST_PASSES)]:
+        return words
+    if words[2:] and words[2].isdigit():
+        return ['passes', *random.Random(int(words[2])).choices(PASSES, k=MOST_PASSES)]
+    return ['passes', *((words[2:] or PASSES) * MOST_PASSES)[:MOST_PASSES]]
+
+
 def call(mir: str, shape: str, words: str, text: Path, folder: Path, seconds: int, memory: int) -> Taken:
     """Calls the command on a text. As in `run.py`, a shell that is small starts it, so that its peak of memory is its own."""
     output, errors = folder / 'output', folder / 'errors'
@@ -176,7 +196,8 @@ def call(mir: str, shape: str, words: str, text: Path, folder: Path, seconds: in
         (os.POSIX_SPAWN_OPEN, 1, output, write, 0o600),
         (os.POSIX_SPAWN_OPEN, 2, errors, write, 0o600),
     ]
-    arguments = ['sh', '-c', START, 'sh', str(seconds), str(memory * 1000), mir, *(CHAIN if words == 'passes 64' else words.split())]
+    arguments = ['sh', '-c', START, 'sh', str(seconds), str(memory * 1000), mir,
+                 *words_of(words, text.read_text())]
     shell = os.posix_spawn('/bin/sh', arguments, os.environ, file_actions=streams)
     os.waitpid(shell, 0)
     _, status, usage = os.wait4(-1, 0)
@@ -198,6 +219,7 @@ def options() -> argparse.Namespace:
     parser.add_argument('--seconds', type=int, default=60, metavar='N', help='stop a call after so many (60)')
     parser.add_argument('--memory', type=int, default=8000, metavar='MB', help='the memory that a call may have (8000)')
     parser.add_argument('--words', nargs='+', default=list(COMMANDS), metavar='WORDS', help=', '.join(COMMANDS))
+    parser.add_argument('--chains', dest='words', action='store_const', const=CHAINS, help='call with chains of 64 passes')
     asked = parser.parse_args()
     unknown = set(asked.shapes) - set(shapes(1))
     if unknown or min(asked.of, asked.draws, asked.seconds, asked.memory) < 1:
@@ -205,8 +227,20 @@ def options() -> argparse.Namespace:
     return asked
 
 
+def row_of(shape: str, taken: list[Taken]) -> str:
+    """The row of a shape: of the calls that ended the slowest and the largest, and those that did not."""
+    ended = [one for one in taken if one.end in ('', 'still runs')] or taken
+    slowest, largest = max(ended, key=lambda one: one.seconds), max(ended, key=lambda one: one.bytes)
+    others = ', '.join(f'`{one.words}` {one.end}' for one in taken if one.end not in ('', 'still runs'))
+    return (f'| `{shape}` | {taken[0].read / 1000:,.0f} | `{slowest.words}` {slowest.seconds:,.2f} | '
+            f'`{largest.words}` {largest.bytes / 1e6:,.0f} |{f" {others} " if others else " "}|')
+
+
 def tell(taken: list[Taken]) -> None:
-    """Prints the slowest call, the largest one, and those that took too much for what they wrote."""
+    """Prints a row for each shape, the slowest call, the largest one, and those that took too much for what they wrote."""
+    print('\n| Shape | kB | Slowest, s | Largest, MB | Not ended |\n|---|---|---|---|---|')
+    for shape in dict.fromkeys(one.shape for one in taken):
+        print(row_of(shape, [one for one in taken if one.shape == shape]))
     print(f'\nslowest: {max(taken, key=lambda one: one.seconds).line()}')
     print(f'largest: {max(taken, key=lambda one: one.bytes).line()}')
     for one in taken:

@@ -18,9 +18,9 @@ what each command of `mir` makes of it, has to print the same numbers and end in
 1,000,000 steps are compared as native programs (`tools/compile`). The counts are of same, refused by reason, and
 different ones, each of which is shown; the status is 1 where there is one.
 
-Beside it the operators of whole runs are counted by `run`: of the text, of what commands make of it, and of what LLVM
-leaves of the same IR, which is brought in like the source, so that the unit is the same. `--table` shows the programs
-in which LLVM leaves least beside `optimise`. Of each set it is told which programs have a run in which `thorough`
+Beside it the operators of whole runs are counted by `run`: of the text, of what commands make of it, and turns of fewer
+passes than those of `thorough`, and of what LLVM leaves of the same IR, which is brought in like the source, so that the
+unit is the same. `--table` shows the programs in which LLVM leaves least beside `thorough`. Of each set it is told which programs have a run in which `thorough`
 evaluates more operators than `optimise`. The time is that of native programs, by `bench/native_times.py`.
 
 With `--fill` the tables are put into README.md beside this file, behind the line `<!-- bench/real.py -->`; those of a
@@ -61,6 +61,10 @@ from tool_calls import module_of  # noqa: E402
 
 TIMED = ('optimise', 'thorough')
 COMMANDS = ('optimise', 'thorough', 'move', 'divisions', 'tails', 'join')
+# Turns of fewer passes than `thorough` makes, until one changes nothing; and the most that are made.
+TURNS = {'turns': 'tails join optimise called', 'wanted': 'tails join optimise wanted called',
+         'demanded': 'tails join optimise demanded called'}
+MOST_TURNS = 16
 # Native programs end by themselves after a part of a second, which a busy machine gives them late.
 STEPS, SECONDS = 1_000_000, 600
 PAGE = Path(__file__).resolve().parent / 'README.md'
@@ -176,11 +180,23 @@ class Bench:
         return Report(lines[:-1], ended(lines[-1]))
 
     def ways(self, text: str, commands: Optional[tuple[str, ...]] = None) -> Iterable[tuple[str, str]]:
-        """The text, and what each command makes of it, or these alone."""
+        """The text, and what each command and turns of fewer passes make of it, or these commands alone."""
         yield 'source', text
         for command in self.commands if commands is None else commands:
             said = ran([self.mir, command], text.encode())
             yield command, said.stdout.decode() if said.returncode == 0 else said.stderr.decode()
+        for way, words in TURNS.items() if commands is None else ():
+            yield way, self.in_turns(text, words.split())
+
+    def in_turns(self, text: str, words: list[str]) -> str:
+        """What turns of these passes leave of a text, up to the one that cannot be read again."""
+        last = text
+        for _ in range(MOST_TURNS):
+            said = ran([self.mir, 'passes', *words], last.encode())
+            if said.returncode or said.stdout.decode() == last:
+                return last
+            last = said.stdout.decode()
+        return last
 
     def judge(self, source: Source) -> list[Outcome]:
         """What becomes of the programs of a file."""
@@ -189,8 +205,11 @@ class Bench:
         if texts and not self.is_native(source, program):
             return outcomes + [Outcome(name, 'no native program') for name in texts]
         left = functools.cache(lambda: self.left_by_llvm(ir, source.entries.values()))
-        return outcomes + [self.judged(name, source.entries[name], text, source.inputs, program, left)
-                           for name, text in texts.items()]
+        judged = [self.judged(name, source.entries[name], text, source.inputs, program, left)
+                  for name, text in texts.items()]
+        for each in judged:
+            each.is_called = '-DWRAPPER=' in source.flags
+        return outcomes + judged
 
     def texts_of(self, source: Source) -> tuple[dict[str, str], list[Outcome], str]:
         """The programs of a file that come in, what becomes of the others, and the IR of all."""
@@ -338,9 +357,9 @@ def print_counts(title: str, outcomes: list[Outcome]) -> None:
 
 
 def print_table(outcomes: list[Outcome], rows: int) -> None:
-    """Prints the programs in which LLVM leaves least beside `optimise`."""
-    whole = [each for each in outcomes if set(each.evals) >= {'optimise', 'all', 'alike'}]
-    for each in sorted(whole, key=lambda each: each.evals['all'] - each.evals['optimise'])[:rows]:
+    """Prints the programs in which LLVM leaves least beside `thorough`."""
+    whole = [each for each in outcomes if set(each.evals) >= {'thorough', 'all', 'alike'}]
+    for each in sorted(whole, key=lambda each: each.evals['all'] - each.evals['thorough'])[:rows]:
         print(each.name, each.evals)
 
 

@@ -11,8 +11,8 @@ from native_times import Prepared, Times
 
 @dataclass
 class Outcome:
-    """What became of a program: `same`, `different` or why it is not compared; the operators of its runs; and whether in
-    one of them what `thorough` makes evaluates more than what `optimise` makes."""
+    """What became of a program: `same`, `different` or why it is not compared; the operators of its runs; whether in one of
+    them what `thorough` makes evaluates more than what `optimise` makes; and whether csmith's arithmetic is called."""
 
     name: str
     state: str
@@ -20,6 +20,7 @@ class Outcome:
     evals: dict[str, int] = field(default_factory=dict)
     is_long: bool = False
     is_more: bool = False
+    is_called: bool = False
 
     def has_both(self) -> bool:
         """Whether the operators of all its runs were counted under `optimise` and under `thorough`."""

@@ -6,13 +6,16 @@ import native_times
 
 MARK = '<!-- bench/real.py -->'
 FEW = 20  # the mean of fewer times than these tells little
-WAYS = ('source', 'move', 'optimise', 'thorough', 'alike', 'all')
+WAYS = ('source', 'optimise', 'thorough', 'alike', 'all')
+TURNS = ('optimise', 'turns', 'wanted', 'demanded', 'thorough', 'alike', 'all')
 HEADS = {
     'ends': '| Set | Programs | Same | Different | Refused | Not compared | As native programs |',
     'reasons': '| Set | Refused or not compared, since | Programs |',
-    'operators': '| Set | Programs | Source | `move` | `optimise` | `thorough` | `alike` | `all` |',
-    'beside': '| Set | LLVM | beside | less | as much | more |',
-    'each': '| Program | Source | `move` | `optimise` | `thorough` | `alike` | `all` |',
+    'operators': '| Set | Programs | Source | `optimise` | `thorough` | `alike` | `all` |',
+    'turns': '| Set | Programs | `optimise` | `turns` | `wanted` | `demanded` | `thorough` | `alike` | `all` |',
+    'arithmetic': '| Set | Arithmetic | Programs | `optimise` | `thorough` | `alike` | `all` |',
+    'beside': '| Set | LLVM | `optimise`: less | as much | more | `thorough`: less | as much | more |',
+    'each': '| Program | Source | `optimise` | `thorough` | `alike` | `all` |',
     'times': '| clang | Programs | `optimise` | `thorough` |',
 }
 
@@ -39,17 +42,28 @@ def rows_of(name: str, outcomes: list) -> dict[str, list[list]]:
     reasons = sorted(((count, state) for state, count in states.items() if state not in ('same', 'different')),
                      reverse=True)
     found['reasons'] = [[state.removeprefix('refused: '), count] for count, state in reasons]
-    sums = [sum(each.evals.get(way, each.evals['source']) for each in whole)
-            if any(way in each.evals for each in whole) else '' for way in WAYS]
-    found['operators'] = [[len(whole), *sums]] if whole else []
-    found['beside'] = []
-    for kind in ('alike', 'all'):
-        for way in ('optimise', 'thorough'):
-            both = [(each.evals[kind], each.evals[way]) for each in whole if way in each.evals]
-            signs = [sum(left < right for left, right in both), sum(left == right for left, right in both),
-                     sum(left > right for left, right in both)]
-            found['beside'] += [[f'`{kind}`', f'`{way}`', *signs]] if both else []
+    found['beside'] = [[f'`{kind}`', *signs(whole, kind, 'optimise'), *signs(whole, kind, 'thorough')]
+                       for kind in ('alike', 'all')] if whole else []
+    found['operators'] = [[len(whole), *sums(whole, WAYS)]] if whole else []
+    found['turns'] = [[len(whole), *sums(whole, TURNS)]] if whole and 'turns' in whole[0].evals else []
+    called = [each for each in whole if each.is_called]
+    placed = [each for each in whole if not each.is_called]
+    found['arithmetic'] = [[kind, len(some), *sums(some, WAYS[1:])]
+                           for kind, some in (('called', called), ('in place', placed)) if called and placed]
     return {table: [[f'`{name}`', *cells] for cells in rows] for table, rows in found.items()}
+
+
+def sums(outcomes: list, ways: tuple) -> list:
+    """The operators of these programs in some ways; nothing where none was counted."""
+    return [sum(each.evals.get(way, each.evals['source']) for each in outcomes)
+            if any(way in each.evals for each in outcomes) else '' for way in ways]
+
+
+def signs(outcomes: list, kind: str, way: str) -> list[int]:
+    """In how many programs this kind of LLVM's passes leaves less than a way, as much, and more."""
+    both = [(each.evals[kind], each.evals[way]) for each in outcomes if way in each.evals]
+    return [sum(left < right for left, right in both), sum(left == right for left, right in both),
+            sum(left > right for left, right in both)]
 
 
 def lines(name: str, outcomes: list) -> list[str]:

@@ -119,14 +119,14 @@ return y
 end
 """
 
+PASSES = 'tails join clean fold number copies motion divisions sink comparisons bounds wanted demanded optimise called'.split()
 CALLS = [
     Call(['optimise'], CALLING),
     Call(['move'], CALLING),
     Call(['stages'], CALLING),
     Call(['run', '1000', '3'], CALLING),
     Call(['thorough'], CALLING),
-    Call('passes tails join clean fold number copies motion divisions sink bounds wanted demanded optimise called'.split(),
-         CALLING),
+    Call(['passes', *(PASSES * 5)[:64]], CALLING),
     Call(['optimise'], squares(6)),
     Call(['move'], squares(6)),
     Call(['stages'], squares(3)),
@@ -179,7 +179,7 @@ class Trier:
                 silent += 1
             elif found not in (out_of_memory, whole):
                 wrong.append((place, found))
-        print(f'{" ".join(call.words):16} status {whole.status}, {requests} requests, {len(places)} refused in turn: '
+        print(f'{" ".join(call.words[:4]):16} status {whole.status}, {requests} requests, {len(places)} refused in turn: '
               f'{silent} times no words, {refused} times out of memory, '
               f'{len(places) - silent - refused - len(wrong)} times the whole output, {len(wrong)} wrong')
         for place, found in wrong[:5]:

@@ -19,6 +19,7 @@ import tempfile
 from pathlib import Path
 from typing import Iterable
 
+import drawn
 import real
 from divisions import Draw
 
@@ -36,9 +37,9 @@ def rounds_of(mir: str, text: str) -> int:
     return int(ROUND.findall(said.stdout)[-1])
 
 
-def texts_of(sources: Iterable[real.Source]) -> Iterable[str]:
+def texts_of(sources: Iterable[drawn.Source]) -> Iterable[str]:
     """The programs of C files, as texts of `mir`; what cannot be brought in is left out."""
-    from_c, from_llvm = real.tool('from_c'), real.tool('from_llvm')
+    from_c, from_llvm = map(real.module_of, ('from_c', 'from_llvm'))
     for source in sources:
         try:
             read = from_llvm.module_of(from_c.llvm(str(source.path), source.flags))
@@ -67,18 +68,19 @@ def main() -> None:
     words.add_argument('--seed', type=int, default=1, metavar='N', help='the number of the first of each')
     words.add_argument('files', nargs='*', type=Path, metavar='FILE', help='C files and folders of them')
     given = words.parse_args()
-    drawn = range(given.seed, given.seed + given.programs)
-    if drawn:
-        tell('drawn programs', given.mir, (Draw(number).program() for number in drawn))
+    if given.programs:
+        tell('drawn programs', given.mir,
+             (Draw(number).program() for number in range(given.seed, given.seed + given.programs)))
     with tempfile.TemporaryDirectory() as made:
         folder = Path(made)
-        (folder / 'csmith.h').write_text(real.HEADER)
+        (folder / 'csmith.h').write_text(drawn.HEADER)
         numbers = list(range(given.seed, given.seed + given.csmith))
-        groups = [numbers[at:at + real.DRAWN] for at in range(0, len(numbers), real.DRAWN)]
+        groups = [numbers[at:at + drawn.TOGETHER] for at in range(0, len(numbers), drawn.TOGETHER)]
         if groups:
-            tell('programs of csmith', given.mir, texts_of(real.drawn(some, folder) for some in groups))
-    if given.files:
-        tell('C files', given.mir, texts_of(real.named(given.files)))
+            tell('programs of csmith', given.mir,
+                 texts_of(drawn.drawn(drawn.SETTINGS['small'], some, folder, 'small') for some in groups))
+        if given.files:
+            tell('C files', given.mir, texts_of(drawn.of_file(path, folder) for path in real.files_of(given.files)))
 
 
 if __name__ == '__main__':

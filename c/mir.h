@@ -32,7 +32,7 @@ extern "C" {
 
 /* The statuses of a call. With MIR_DONE, MIR_TRAPPED and MIR_RUNNING there is the whole output and no line; with any
  * other one a line that ends with a line feed, cut off or missing where there is no memory for it. With MIR_NO_ROOM a
- * part of the output may be there: judge by the status. */
+ * part of the output may be there: judge by the status. The status 6 of the program, a failed read, never comes. */
 enum mir_status {
     MIR_DONE = 0,         /* the output was made */
     MIR_WORDS = 1,        /* the words are of no command, or a run has other inputs than its program wants */

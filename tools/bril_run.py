@@ -20,6 +20,10 @@ SUMS = {'add': lambda a, b: a + b, 'sub': lambda a, b: a - b, 'mul': lambda a, b
 RELATIONS = {'eq': lambda a, b: a == b, 'lt': lambda a, b: a < b, 'gt': lambda a, b: a > b,
              'le': lambda a, b: a <= b, 'ge': lambda a, b: a >= b}
 LOGIC = {'and': lambda a, b: a and b, 'or': lambda a, b: a or b}
+COMPARED = {**RELATIONS, **LOGIC}
+
+# Of which type the operands are to be: of either, of `bool`, and of `int` for all other operations.
+WANTED = {'id': None, **dict.fromkeys(('not', *LOGIC), 'bool')}
 
 
 class Stopped(Exception):
@@ -37,11 +41,11 @@ class Report(NamedTuple):
 
 
 class Frame:
-    """A call of a function: its place, its variables, and the variable of the caller that gets its value."""
+    """A call of a function: its place, where its labels stand, its variables, and the variable of the caller that gets its
+    value."""
 
-    def __init__(self, function: Function, values: list[Value], dest: Optional[str]):
-        self.function, self.dest, self.at = function, dest, 0
-        self.labels = {line.name: at for at, line in enumerate(function.lines) if isinstance(line, Label)}
+    def __init__(self, function: Function, labels: dict[str, int], values: list[Value], dest: Optional[str]):
+        self.function, self.labels, self.dest, self.at = function, labels, dest, 0
         self.values: dict[str, Value] = {}
         for (name, of), value in zip(function.args, values):
             if is_other(value, of):
@@ -50,11 +54,12 @@ class Frame:
 
     def value(self, name: str, of: Optional[str] = None) -> Value:
         """The value of a variable, which has this type."""
-        if name not in self.values:
+        value = self.values.get(name)
+        if value is None:
             raise Stopped(f'the variable {name} is not set')
-        if is_other(self.values[name], of):
+        if is_other(value, of):
             raise Stopped(f'the variable {name} is no {of}')
-        return self.values[name]
+        return value
 
 
 def is_other(value: Value, of: Optional[str]) -> bool:
@@ -64,7 +69,7 @@ def is_other(value: Value, of: Optional[str]) -> bool:
 
 def wrapped(number: int) -> int:
     """The number that 64 bits have of another."""
-    return (number + 2 ** 63) % 2 ** 64 - 2 ** 63
+    return number if -2 ** 63 <= number < 2 ** 63 else (number + 2 ** 63) % 2 ** 64 - 2 ** 63
 
 
 def quotient(left: int, right: int) -> int:
@@ -78,15 +83,14 @@ def computed(frame: Frame, one: Instruction) -> Value:
     """The value of an operation."""
     if one.op == 'const':
         return one.value
-    of = None if one.op == 'id' else 'bool' if one.op in ('not', *LOGIC) else 'int'
-    values = [frame.value(name, of) for name in one.args]
-    if one.op in ('id', 'not'):
-        return values[0] if one.op == 'id' else not values[0]
-    if one.op == 'div':
-        return wrapped(quotient(*values))
+    values = [frame.value(name, WANTED.get(one.op, 'int')) for name in one.args]
     if one.op in SUMS:
         return wrapped(SUMS[one.op](*values))
-    return {**RELATIONS, **LOGIC}[one.op](*values)
+    if one.op in COMPARED:
+        return COMPARED[one.op](*values)
+    if one.op == 'div':
+        return wrapped(quotient(*values))
+    return not values[0] if one.op == 'not' else values[0]
 
 
 class Run:
@@ -95,8 +99,14 @@ class Run:
     def __init__(self, functions: list[Function]):
         check_core(functions)
         self.functions = {function.name: function for function in functions}
+        self.labels = {function.name: {line.name: at for at, line in enumerate(function.lines) if isinstance(line, Label)}
+                       for function in functions}
         self.printed: list[list[Value]] = []
         self.count, self.result, self.frames = 0, None, []
+
+    def frame(self, name: str, values: list[Value], dest: Optional[str]) -> Frame:
+        """A call of a function with these values."""
+        return Frame(self.functions[name], self.labels[name], values, dest)
 
     def report(self, inputs: list[Value], steps: int) -> Report:
         """The report of the run with these inputs."""
@@ -104,7 +114,7 @@ class Run:
         try:
             if len(inputs) != len(self.functions['main'].args):
                 raise Stopped(number_wanted(len(self.functions['main'].args), 'input'))
-            self.frames = [Frame(self.functions['main'], inputs, None)]
+            self.frames = [self.frame('main', inputs, None)]
             while self.frames and self.count < steps:
                 self.step(self.frames[-1])
         except Stopped as why:
@@ -125,7 +135,7 @@ class Run:
             self.leave(frame, one)
         elif one.op == 'call':
             values = [frame.value(name) for name in one.args]
-            self.frames.append(Frame(self.functions[one.funcs[0]], values, one.dest))
+            self.frames.append(self.frame(one.funcs[0], values, one.dest))
         elif one.op == 'print':
             self.printed.append([frame.value(name) for name in one.args])
         elif one.op != 'nop':

@@ -59,7 +59,7 @@ class CommandLine(unittest.TestCase):
         page = (TOP / 'man/mir.1').read_text().partition('at most 64 of\n')[2].partition('.TP')[0]
         for found in (completed, told, set(re.findall('[a-z]{2,}', page)) - {'and'}):
             self.assertEqual(sorted(found), sorted(passes))
-        self.assertIn(f'\n{" " * 22}{" ".join(told)}\n', self.script('--help')[1])
+        self.assertIn(f' at most 64: {" ".join(told)} run STEPS ', ' '.join(self.script('--help')[1].split()))
         for word in passes:
             self.assertEqual(self.script('passes', word, str(TOP / 'examples/sums.mir'))[::2], (0, ''))
 
@@ -128,7 +128,10 @@ class CommandLine(unittest.TestCase):
                             (['run', '5', '7', '--1'], '`--1` is no number'),
                             (['passes', 'claen', 'x'], '`claen` is no pass; the nearest is `clean`'),
                             (['passes'] + 65 * ['clean'], 'there are more than 64 passes'),
-                            (['trial', '7'], '`trial` wants more numbers: mir --help tells how many')):
+                            (['trial', '7'], '`trial` wants more numbers: mir --help tells how many'),
+                            (['run', '1.5', '7'], '`1.5` is no number'),
+                            (['p.mir', 'move'], '`p.mir` is not the last word, where the name of a file stands'),
+                            (['move', './p', 'q'], '`./p` is not the last word, where the name of a file stands')):
             self.assertEqual(self.script(*words), (1, '', f'{usage}mir: {told}\n'))
         self.assertEqual(self.script('run', '5', '7', text='main: begin\nend\n'), (1, '', 'wrong inputs: 0 wanted\n'))
 
@@ -178,10 +181,11 @@ class CommandLine(unittest.TestCase):
 class Library(unittest.TestCase):
     """The library for C, compiled into programs, and by Python."""
 
-    COMMANDS = (['optimise'], ['stages'], ['move'], ['ranges'], ['divisions'], ['tails'], ['join'], ['run', '1000'],
-                ['run', '50', '3', '5'], ['trial', '7', '3'], [], ['no', 'command'], ['run', 'x'],
-                ['tables'], *(['tables', word] for word in ('optimise', 'divisions', 'tails', 'join', 'x')),
-                ['tables', 'tails', 'join'])
+    TABLED = ('divisions', 'tails', 'join', 'bounds', 'wanted')
+    COMMANDS = (['optimise'], ['stages'], ['move'], ['ranges'], ['divisions'], ['tails'], ['join'], ['thorough'],
+                ['passes', 'clean', 'bounds', 'called'], ['run', '1000'], ['run', '50', '3', '5'], ['trial', '7', '3'],
+                [], ['no', 'command'], ['run', 'x'], ['passes', 'x'],
+                ['tables'], *(['tables', word] for word in ('optimise', *TABLED, 'x')), ['tables', 'tails', 'join'])
 
     def setUp(self):
         """The library, a folder, and the compilers."""
@@ -231,7 +235,7 @@ class Library(unittest.TestCase):
         alone, and all memory is given back."""
         wrapped = [f'-Wl,--wrap={name}' for name in ('malloc', 'realloc', 'free')]
         rows = ran([self.compiled(TOOLS / 'no_memory.c', self.compilers[0], *wrapped)]).stdout.decode().splitlines()
-        names = ('optimise', 'tables', 'tables divisions', 'tables tails', 'tables join')
+        names = ('optimise', 'tables', *(f'tables {word}' for word in self.TABLED))
         self.assertEqual([row.split(':')[0] for row in rows],
                          [f'{name}, {how}' for name in names for how in ('one alone', 'all from one on')])
         for row in rows:
@@ -257,7 +261,7 @@ class Library(unittest.TestCase):
             self.assertEqual(mir.optimise(text), ran([GIVEN.mir, 'optimise'], path.read_text('latin-1')).stdout.decode())
         self.assertEqual(mir.run('main: begin\nreceive a(val)\nx <- a + 1\nreturn x\nend\n', 10, 4), 'result 5\nevals 1\n')
         text = (TOP / 'examples/helpers.mir').read_text()
-        for words in ([], ['divisions'], ['tails'], ['join']):
+        for words in ([], *([word] for word in self.TABLED)):
             said = mir.tables(text, *words)
             self.assertEqual(said.split('\n')[0], ' '.join(['tables 1', *words]))
             if GIVEN.tables:

@@ -67,6 +67,5 @@ def run(text: str, steps: int, *inputs: int) -> str:
 
 
 def tables(text: str, word: Optional[str] = None) -> str:
-    """What each pass finds out about each node, as `mir_tables` writes it with no word, or with `divisions`, `tails` or
-    `join`."""
+    """What each pass finds out about each node, as `mir_tables` writes it with no word, or with the word that is given."""
     return asked('mir_tables_call', text, () if word is None else (word,))

@@ -49,7 +49,7 @@ static uint8_t out[1 << 16], line[200];
 /* What is called: a name, whether it is for tables, and the word, or an empty one for none. */
 static const struct { const char *name; int tables; const char *word; } asked[] = {
     {"optimise", 0, "optimise"}, {"tables", 1, ""}, {"tables divisions", 1, "divisions"}, {"tables tails", 1, "tails"},
-    {"tables join", 1, "join"},
+    {"tables join", 1, "join"}, {"tables bounds", 1, "bounds"}, {"tables wanted", 1, "wanted"},
 };
 
 /* One call, whose blocks are counted. */

@@ -284,6 +284,11 @@ SHOWN = '''(() => {
     wide: document.documentElement.scrollWidth, cut, unit: unitNow().name };
 })()'''
 
+# The columns that have not a bit or a value for each node.
+LACKING = '''UNITS.flatMap(unit => passesOf(unit).flatMap(pass => range(Math.max(itemsOf(pass).length, 1)).flatMap(at =>
+  columnsOf(pass, KIND_OF_ITEM[pass.name] ? at : 0).filter(one => (one.bits ?? one.values).length !== pass.before.nodes.length)
+    .map(one => `${unit.name}, ${pass.title}: ${one.id}`))))'''
+
 # Whether the row of now, and what stands before it, can be seen whole in the box of the table, and the box in the window.
 IN_SIGHT = '''(() => {
   const box = $('#table .scroll').getBoundingClientRect(), head = $('#grid thead th').getBoundingClientRect();

@@ -175,6 +175,19 @@ class Pages(unittest.TestCase):
                                ('clause `narrow_in` of `rows_of_narrowing`', False)):
             self.assertEqual(not list(self.check.references.misplaced(page, text)), is_right, text)
 
+    def test_pages_list_what_they_should(self):
+        """A page with a row for each crate is asked for each, and the table of what has to be read for just its files."""
+        named = self.check.references
+        for name, row in named.ROWS.items():
+            text = (TOP / name).read_text(encoding='utf-8')
+            self.assertEqual(list(named.unlisted(TOP / name, text)), [])
+            self.assertEqual(list(named.unlisted(TOP / name, text.replace(row.format('key_rows'), ''))),
+                             ['has no row for the crate key_rows'])
+        text = (TOP / 'docs/PROOFS.md').read_text(encoding='utf-8')
+        for files, said in (('`Units`, `Runs`', []), ('`Units`', ['does not list Runs of mir_base, which has to be read']),
+                            ('`Units`, `RunLaws`, `Runs`', ['lists RunLaws of mir_base, which does not have to be read'])):
+            self.assertEqual(list(named.unread(TOP / 'docs/PROOFS.md', text.replace('`Units`, `Runs`', files))), said)
+
     def test_named_tests_are_looked_up(self):
         """Of each remark that a page names there is one in the file that it names, and none of another."""
         text = '*Test*: `row_examples.rt`, "the diamond" and\n"no such remark".'

@@ -33,7 +33,7 @@ const COLUMNS = {
     const wanted = pass.facts.wanted || [];
     return pass.before.vars.map((name, v) => values(name, wanted.map(one => String(one[v])),
       `How many of the lowest bits of ${code(name)} can still matter before the node.`,
-      n => ({ html: `Before ${N(n)} the ${wanted[n][v]} lowest bits of ${code(name)} can matter.` })));
+      n => whyWanted(pass, n, v)));
   },
 
   fold(pass) {

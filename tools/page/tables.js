@@ -169,7 +169,7 @@ const OF_STAGE = {
 };
 
 // What may be told of a pass.
-const TOLD = ['rows', 'edges', 'items', 'states', 'terms', 'before', 'calls', 'other'];
+const TOLD = ['rows', 'edges', 'items', 'states', 'wanted', 'terms', 'before', 'calls', 'other'];
 
 // A pass by its name, and what is told of it, which is read when some of it is asked for.
 function factsOf(reader, block) {
