@@ -1,5 +1,6 @@
 """What the pages name: links, files, and words of the code. `docs/check` asks here whether each of them is there, and a word
-beside a crate or a file (`word` of `crate`, `Word` (`specs/File.antt`)) in that crate or file."""
+beside a crate or a file (`word` of `crate`, `Word` (`specs/File.antt`)) in that crate or file; whether each crate has its
+row on the pages that have one for each; and whether docs/PROOFS.md lists what has to be read (`unfolded.py`)."""
 
 import functools
 import os
@@ -7,6 +8,8 @@ import re
 import subprocess
 from pathlib import Path
 from typing import Iterator
+
+import unfolded
 
 TOP = Path(__file__).resolve().parent.parent
 PAGES = ('*.md', 'docs/*.md', 'examples/*.md', 'bench/*.md', 'tools/*.md', 'crates/*/README.md')
@@ -22,6 +25,8 @@ NAME = re.compile(r"[A-Za-z_][\w']*(?:::[\w']+)*")
 # Words, and a crate, a file or another word that they are said to be of; words, and the files of definitions beside them.
 OF = re.compile(r'((?:`[^`]+`(?:, and |, | and | or ))*`[^`]+`) (?:of|in) (`[\w./-]+`)')
 BESIDE = re.compile(r'((?:`[^`./]+`(?:, and |, | and | or ))*`[^`./]+`)(?:, | \()((?:`[\w/]+\.antt`(?:, )?)+)')
+# Pages with a row for each crate, and what names it there.
+ROWS = {'docs/WAYS.md': '(../crates/{}/README.md)', 'docs/ARCHITECTURE.md': '\n| `{}` |', 'docs/PROOFS.md': ' | `{}` | '}
 
 
 @functools.lru_cache(maxsize=None)
@@ -156,6 +161,21 @@ def misplaced(page: Path, text: str) -> Iterator[str]:
                 yield f'names {word} of {", ".join(places)}, where it does not stand'
 
 
+def unlisted(page: Path, text: str) -> Iterator[str]:
+    """The crates that have no row on a page with a row for each, and that it does not say to be left out."""
+    row = ROWS.get(os.path.relpath(page, TOP))
+    left_out = ' '.join(re.findall(r'Left out are [^.]*\.', text))
+    for crate in re.findall(r'^(\w+)[^:\n]*:', (TOP / 'crates.txt').read_text(encoding='utf-8'), re.M) if row else []:
+        if row.format(crate) not in text and f'`{crate}`' not in left_out:
+            yield f'has no row for the crate {crate}'
+
+
+def unread(page: Path, text: str) -> Iterator[str]:
+    """In what the table of what has to be read differs from what the theorem unfolds to."""
+    if page == TOP / 'docs' / 'PROOFS.md':
+        yield from unfolded.wrong(text)
+
+
 def pages() -> list[Path]:
     """The pages that are looked at."""
     return sorted({page for pattern in PAGES for page in TOP.glob(pattern)})
@@ -164,4 +184,5 @@ def pages() -> list[Path]:
 def wrong(page: Path) -> list[str]:
     """All that a page names and is not there."""
     text = page.read_text(encoding='utf-8')
-    return [*wrong_links(page, text), *wrong_names(page, text), *misplaced(page, text)]
+    return [*wrong_links(page, text), *wrong_names(page, text), *misplaced(page, text), *unlisted(page, text),
+            *unread(page, text)]
