@@ -18,7 +18,7 @@ use Rattle.bit_rows.specs.Joinings.{bit_join, word_join}
 use Rattle.bit_rows.specs.Words.{bit_of, bits_of, minus_word, used_bits, with_bit, FitsWords}
 use Rattle.bit_rows.specs.BitLaws.{length_zip_with, get_or_zip_with}
 
--- as many bits as are asked for, and each of them
+-- a row that is seen in words has as many bits as are asked for
 pub length_bits_of : (n : ℕ) (ws : List ℕ) → length (bits_of n ws) ≡ n
 unfolding bits_of
 length_bits_of n ws = length-map-range_with_len (bit_of ws) 0 n

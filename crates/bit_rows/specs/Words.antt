@@ -25,12 +25,12 @@ pub record FitsWords (n : ℕ) (words : List ℕ) : Type 0 where
 abbrev pub minus_word : ℕ → ℕ → ℕ
 minus_word x y = bit_and x (bit_not w64 y)
 
--- of so many words each is made of the old one and another list's by the operator
+-- each of the first `len` words is what the operator gives on the old word and on the other list's
 abbrev pub EachWord : (ℕ → ℕ → ℕ) → ℕ → List ℕ → List ℕ → List ℕ → Type 0
 EachWord op len old other new = (k : ℕ) → k < len
     → slice_index new k ≡ op (slice_index old k) (slice_index other k)
 
--- each is made of the old one, and of what another list's has and a third one's has not
+-- each of them is the old word with the bits that the other list has and the third has not
 abbrev pub EachOrMinus : ℕ → List ℕ → List ℕ → List ℕ → List ℕ → Type 0
 EachOrMinus len old other less new = (k : ℕ) → k < len
     → slice_index new k

@@ -72,7 +72,7 @@ marked_heads source is marks are =
       entry = ap (λ l. slice_get l 0) heads ∙ first_stays marks (heads_of source) ((are.exact 0 is.some_unit).1 at_first);
     }
 
--- it keeps the runs
+-- the program of the called units keeps the runs of the source, and the heads of its units
 pub keeps_as : (source target : ProgramShape) → IsProgram source.globals source.units → HasCalledUnits source target → KeepsRuns source target
 keeps_as source target is has =
     let keep = marked_keep source is has.marks has.are_marks in

@@ -26,7 +26,8 @@ pub record PassesBack (graph : GraphShape) (node : Node) (n : ℕ)
   pub len : length new ≡ length old
   pub each : (m : ℕ) → length (row_of new m) ≡ length (row_of old m)
   pub bits : (m x : ℕ) → has_bit new x m
-      ≡ (if nat_eq n m then is_in x (node_reads graph node) || (has_bit old x m && not (is_in x (assigned_vars graph node)))
+      ≡ (if nat_eq n m then is_in x (node_reads graph node)
+      || (has_bit old x m && not (is_in x (assigned_vars graph node)))
       else has_bit old x m)
 
 -- by the row of what is live after it the node is a dead assignment
@@ -44,7 +45,8 @@ is_dead_by live row (Return a) = false
 
 -- whether x is live before these nodes of a block, by whether it is live after the last of them
 abbrev pub live_past : GraphShape → ℕ → Bool → List ℕ → Bool
-live_past graph x after list = passed_all (reads_at graph x) (assigns_at graph x) after (reverse list)
+live_past graph x after list =
+    passed_all (reads_at graph x) (assigns_at graph x) after (reverse list)
 
 -- of the blocks below this number the rows say which variables each reads before it assigns them, and which it assigns
 pub record AreAccessesTo (graph : GraphShape) (lists : List (List ℕ)) (below : ℕ)

@@ -32,4 +32,5 @@ hands_on (Some (Return a)) = true
 -- the value that x has before n is handed on: some path from n comes to a node that hands the globals on, with no node
 -- before that one assigning x
 abbrev pub IsHandedOn : GraphShape → ℕ → ℕ → Type 0
-IsHandedOn graph x n = BornAhead graph.nodes (λ m. hands_on (slice_get graph.nodes m)) (assigns_at graph x) n
+IsHandedOn graph x n =
+    BornAhead graph.nodes (λ m. hands_on (slice_get graph.nodes m)) (assigns_at graph x) n

@@ -1,4 +1,5 @@
--- An edge by target is that of the flow the other way round, and what a push along it leaves is the least upper bound.
+-- The edge that has a number by target is the flow's edge of this number, turned round. What a push along it leaves is
+-- the least upper bound of what was there and what came.
 use Rattle.std.proofs.Common.{◌≡◌, ℕ, ◌<◌, true, List, length, slice_get, Some, Bool, option_map, sym, ap, ◌∙◌, subst}
 use Rattle.std.proofs.lemmas.Option.{slice_get-map, get_or_from_slice_get}
 use Rattle.flow_graph.specs.declared.edges.Edge.{Edge}

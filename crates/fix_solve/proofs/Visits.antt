@@ -63,7 +63,7 @@ module _ {V : Type 0} (below : V → V → Type 0) (size : V → ℕ) (rank : V 
         → load net rank weight (value_at net values) fl' + weight node ≤ load net rank weight (value_at net values) fl
     load_begins weight on off = load_take below size rank order net laws weight (value_at net values) fl fl' node in_range others_fl on off
 
-  -- the first node of the one list is taken from it
+  -- what is left to do becomes less, by both weights, when the first node that waits is taken from the list
   pub load_taken : (node : ℕ) (values : List V) (lists : List (List ℕ)) (rest : List ℕ) (fl' : ℕ → Bool) → node < net.nodes → Working below net values (is_listed lists) AllDone
       → length lists ≡ 1 → list_at lists 0 ≡ node ∷ rest → ((k : ℕ) → fl' k ≡ (is_listed lists k && not (eqb k node))) → LessLeft net rank values (is_listed lists) fl' node
   load_taken node values lists rest fl' in_range w one is listed =

@@ -91,7 +91,7 @@ module _ {A : Type 0} (none n block : ℕ) (order : Vec ℕ A) (block_of : List 
   pub place_left : vec_len order < vec_capacity order
   place_left = omega (arith, room, unplaced_less none n block block_of h is other)
 
-  -- and the others have theirs once it has its own
+  -- and it has room for all the others once this node is placed
   pub room_left : (longer : Vec ℕ A) (after : List ℕ) → vec_len longer ≡ vec_len order + 1 → vec_capacity longer ≡ vec_capacity order → after ≡ set block_of n block → HasRoomForUnplaced none longer after
   room_left longer after len capacity after_is = omega (arith, room, len, capacity, ap (unplaced none) after_is, unplaced_less none n block block_of h is other)
 

@@ -53,7 +53,7 @@ get_append [] ys i x e = inr (i, omega arith, e)
 get_append (z ∷ xs) ys zero x e = inl e
 get_append (z ∷ xs) ys (suc i) x e = elim (get_append xs ys i x e) [ inl l ↦ inl l | inr r ↦ inr (r.0, omega (arith, r.1), r.2) ]
 
--- an item of such a list was there before, or is the last
+-- an item of a list to which one was added stood there before, or is the one that was added
 pub get_push : {A : Type 0} (xs : List A) (x y : A) (i : ℕ) → slice_get (xs ++ x ∷ []) i ≡ Some y → (slice_get xs i ≡ Some y) ⊎ ((i ≡ length xs) × (x ≡ y))
 get_push [] x y zero e = inr (refl, cc)
 get_push [] x y (suc i) e = cc

@@ -43,7 +43,7 @@ made_calls name shared vars received raw graph made called count = retained_call
 
 -- ---- lowering
 
--- no call is not a call
+-- what calls nothing calls no unit with any number of arguments
 no_call : (called count : ℕ) → ◌≡◌ {A = Option (ℕ × ℕ)} None (Some (called, count)) → ⊥
 no_call called count is = absurd (cc)
 
@@ -66,7 +66,7 @@ nodes_call p (inst ∷ body) zero node called count e calls = let same : place_n
 nodes_call p (inst ∷ body) (suc n) node called count e calls =
     let there = nodes_call (suc p) body n node called count e calls in record { place = suc there.place; inst = there.inst; here = there.here; calls = there.calls }
 
--- the same with the Start node before them
+-- a call of the nodes that a body gives, Start before them, is a call of the body
 all_call : (body : List Inst) (called count : ℕ) (n : ℕ) (node : Node) → slice_get (all_nodes body) n ≡ Some node → node_call node ≡ Some (called, count) → BodyCalls body called count
 all_call body called count zero node e calls = let same : Start (suc (receives_in body)) ≡ node = cc in absurd (no_call called count (ap node_call same ∙ calls))
 all_call body called count (suc n) node e calls = nodes_call 0 body n node called count e calls

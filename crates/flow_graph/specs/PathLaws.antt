@@ -20,7 +20,7 @@ pub begins_first : (list : List ℕ) (n : ℕ) → Begins n list → slice_get l
 begins_first [] n b = absurd b
 begins_first (k ∷ list) n b = ap Some b
 
--- it ends with the one at the last place
+-- the node with which a list ends stands at its last index
 pub end_stands : (list : List ℕ) (m : ℕ) → Ends m list → slice_get list (length list - 1) ≡ Some m
 end_stands [] m e = absurd e
 end_stands (k ∷ []) m e = ap Some e

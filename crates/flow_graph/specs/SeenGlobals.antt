@@ -42,11 +42,11 @@ shared_in shared x more lt = ap (λ k. is_in k (shared_vars shared ++ more)) (sy
 pub shared_index : (shared x : ℕ) (more : List ℕ) → x < shared → first_index (shared_vars shared ++ more) x ≡ x
 shared_index shared x more lt = ap (first_index (shared_vars shared ++ more)) (sym (zero-add x)) ∙ range_index shared 0 x more lt
 
--- the number of them is none of them
+-- how many globals there are is not the number of one of them, since these are counted from 0
 pub shared_misses : (shared : ℕ) → is_in shared (shared_vars shared) ≡ false
 shared_misses shared = range_misses shared 0 shared (omega arith)
 
--- and they are so many
+-- the list of the globals has as many entries as there are globals
 pub shared_count : (shared : ℕ) → length (shared_vars shared) ≡ shared
 shared_count shared = length-range_with_len 0 shared
 

@@ -47,14 +47,14 @@ module _ (nodes others : List Node) (same : ShareSuccs nodes others) where
     enters = sym (ap (preds_among n) (same_edges 0 nodes others same.long same.succs)) ∙ glued.enters;
   }
 
-  -- and the chains of them
+  -- graphs that share successors have the same chains of glued nodes
   pub same_chain : (list : List ℕ) → IsChain nodes list → IsChain others list
   same_chain [] chain = chain
   same_chain (n ∷ []) chain = subst (λ k. n < k) same.long chain
   same_chain (m ∷ n ∷ list) chain = (same_glued m n chain.0, same_chain (n ∷ list) chain.1)
 
 module _ (nodes others : List Node) (same : ShareSuccs nodes others) where
-  -- and the blocks
+  -- and the same blocks
   pub same_block : (list : List ℕ) → IsBlock nodes list → IsBlock others list
   same_block list is = record {
     chain = same_chain nodes others same list is.chain;

@@ -43,7 +43,7 @@ is_occurrence_of x t next sinkable =
 pub occurrence_sinkable : (x : ℕ) (t : Rhs) (o : Option Node) → is_occurrence x t o ≡ true → is_sinkable o ≡ true
 occurrence_sinkable x t o is = let w = occurrence_is x t o is in ap is_sinkable w.1 ∙ ap not w.2
 
--- what never divides is an occurrence
+-- a sinkable node is an assignment, and its right side does not divide
 pub sinkable_is : (o : Option Node) → is_sinkable o ≡ true
     → (x : ℕ) × (t : Rhs) × (next : ℕ) × (o ≡ Some (Assign x t next)) × (divides t ≡ false)
 sinkable_is None is = absurd (false≢true is)

@@ -62,7 +62,8 @@ not_read v rhs can = not-true (is_in v (rhs_vars rhs)) (and_parts (not (divides 
 
 -- each assignment that holds on this path gives its variable the value of its right side
 pub record AgreeOn (graph : GraphShape) (before : List ℕ) (values : Values) : Type 0 where
-  pub is : (v : ℕ) (rhs : Rhs) → can_hold v rhs ≡ true → Since (occurs_at v rhs graph) (ends_at graph v rhs) before → values v ≡ rhs_value values rhs
+  pub is : (v : ℕ) (rhs : Rhs) → can_hold v rhs ≡ true
+      → Since (occurs_at v rhs graph) (ends_at graph v rhs) before → values v ≡ rhs_value values rhs
 
 module _ (graph : GraphShape) (m : ℕ) (before : List ℕ) (values : Values) where
   -- one step, by what a node does with an assignment that it is, and with one of which it assigns nothing

@@ -15,4 +15,5 @@ AgreesThere graph frame = (v : ℕ) (rhs : Rhs) → IsHeld graph v rhs frame.pla
 
 -- wherever a run of the graph comes to, it is so
 abbrev pub HeldValuesAgree : GraphShape → Type 0
-HeldValuesAgree graph = (frame : Frame) → IsRunFrame (machine_of graph) frame → AgreesThere graph frame
+HeldValuesAgree graph =
+    (frame : Frame) → IsRunFrame (machine_of graph) frame → AgreesThere graph frame

@@ -51,7 +51,7 @@ chain_below nodes (k ∷ chain) n m w = (slice_get_within nodes k _ w.2, chain_b
 pub note_below : (nodes : List Node) (found : List ChainPlace) (chain : List ℕ) (start n : ℕ) → IsFollowed nodes found chain start n → AllBelow (length found) chain
 note_below nodes found chain start n f = subst (λ k. AllBelow k chain) (sym f.long) (chain_below nodes chain start n f.is_chain)
 
--- the successor of a Skip of which nothing is known
+-- where a chain is followed on to a next node, the node at hand is a Skip to it of which nothing was found yet
 onward_is : (node : Node) (found : ChainPlace) (next : ℕ) → onward_of node found ≡ Some next → (node ≡ Skip next) × (found ≡ Nothing)
 onward_is (Skip s) Nothing next e = let same : s ≡ next = cc in (ap Skip same, refl)
 onward_is (Skip s) InChain next e = cc

@@ -181,7 +181,7 @@ joined_long by_var bits (suc n) few each =
     let long = joined_long by_var bits n (omega (arith, few)) each in
     length_or (joined_rows by_var bits n) (row_of by_var n) (long ∙ sym (each n (omega (arith, few)))) ∙ long
 
--- and have the bits that one of them has
+-- and they have a bit where the row of one of the first n variables has it
 joined_bit : (by_var : List (List Bool)) (bits i n : ℕ) (of_var : ℕ → Bool) → n ≤ length by_var
     → ((x : ℕ) → x < length by_var → length (row_of by_var x) ≡ bits)
     → ((x : ℕ) → x < length by_var → has_bit by_var i x ≡ of_var x)

@@ -32,7 +32,7 @@ ComesToUse graph e Down (n ∷ []) = (IsLatest graph e Down n → ⊥) × (uses 
 ComesToUse graph e Down (m ∷ n ∷ path) = (IsLatest graph e Down m → ⊥)
     × ComesToUse graph e Down (n ∷ path)
 
--- no path that leaves n comes so to a use
+-- n is isolated: no path that leaves n comes, through nodes that are not latest, to such a use
 abbrev pub IsIsolated : GraphShape → Expr → (ℕ → Type 0) → ℕ → Type 0
 IsIsolated graph e Down n = (path : List ℕ) → IsPath graph.nodes (n ∷ path)
     → ComesToUse graph e Down path → ⊥

@@ -27,7 +27,7 @@ lockstep_simulates first second S l = record {
 pub lockstep_same : (first second : Machine) (S : Frame → Frame → Type 0) → Lockstep first second S → UnitSame first second
 lockstep_same first second S l = simulated_same first second (Unit {0}) (Stepping S) (lockstep_simulates first second S l)
 
--- and the second evaluates no more operators
+-- of machines in lockstep the second evaluates no more operators
 pub lockstep_cheaper : (first second : Machine) (S : Frame → Frame → Type 0) → Lockstep first second S → UnitCheaper first second
 lockstep_cheaper first second S l = simulated_cheaper first second (Unit {0}) (Stepping S) (lockstep_simulates first second S l) tt
 

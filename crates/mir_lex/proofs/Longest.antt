@@ -127,7 +127,7 @@ mark_longest previous bytes after mark tail (is, goes) ends = (
 pub word_longest : (previous : Previous) (bytes after : List ℕ) → IsWord bytes → NotContinued PWord after → IsLongest previous bytes after
 word_longest previous bytes after word ends = longest_by previous bytes after PWord (word_no_longer previous bytes word) ends
 
--- a number that no digit follows
+-- a number that no digit follows is as long as it can be
 pub number_longest : (previous : Previous) (bytes after : List ℕ) → IsNumeral previous bytes → ((byte : ℕ) (rest : List ℕ) → after ≡ byte ∷ rest → is_ascii_digit byte ≡ false) → IsLongest previous bytes after
 number_longest previous bytes after numeral ends [] rest split spelled = refl
 number_longest previous bytes after numeral ends (byte ∷ more) rest split spelled = absurd (number_no_longer previous bytes numeral byte more (ends byte (more ++ rest) split) spelled)

@@ -323,7 +323,7 @@ pub numeral_snoc : (previous : Previous) (s : List ℕ) (b : ℕ) → IsNumeral 
 numeral_snoc previous s b (inl h) is = inl (digits_snoc s b h is)
 numeral_snoc previous s b (inr h) is = inr (h.0 ++ b ∷ [], ap (λ (l : List ℕ). l ++ b ∷ []) h.1, digits_snoc h.0 b h.2 is, h.3)
 
--- one more byte of a word
+-- bytes that begin as a name do so with one more byte behind them
 pub begins_snoc : (s : List ℕ) (b : ℕ) → begins_as_name s ≡ true → begins_as_name (s ++ b ∷ []) ≡ true
 begins_snoc [] b h = absurd (cc)
 begins_snoc (c ∷ s) b h = h

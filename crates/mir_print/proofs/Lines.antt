@@ -254,12 +254,12 @@ operand_spaced : (a : RawOperand) (more : List Piece) (after : List ℕ) → Ope
 operand_spaced (RawVar x) more after fits begins spaced = (fits, begins, spaced)
 operand_spaced (RawConst z) more after fits begins spaced = ((fits, tt), begins, spaced)
 
--- an operator and the blank behind it stand apart from what follows: an operator of one operand
+-- an operator of one operand, and the blank behind it, stand apart from what follows
 un_op_spaced : (previous : Previous) (op : UnOp) (more : List Piece) (after : List ℕ) → AreSpaced AfterOther more after → AreSpaced previous (Shown (unop_symbol op) ∷ Blank ∷ more) after
 un_op_spaced previous Neg more after spaced = (tt, refl, spaced)
 un_op_spaced previous op more after spaced = (tt, refl, spaced)
 
--- an operator of two operands
+-- and so do one of two operands and its blank
 op_spaced : (previous : Previous) (op : Op) (more : List Piece) (after : List ℕ) → AreSpaced AfterOther more after → AreSpaced previous (Shown (binop_symbol op) ∷ Blank ∷ more) after
 op_spaced previous Add more after spaced = (tt, refl, spaced)
 op_spaced previous op more after spaced = (tt, refl, spaced)

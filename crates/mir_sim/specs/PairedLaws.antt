@@ -37,7 +37,7 @@ shows_return answer (Calls u entry into next) s = cc
 shows_return answer (Returns w) s = cc
 shows_return answer (Traps kind n) s = cc
 
--- only a trap shows a trap
+-- a transition that shows a trap is one that traps, by this kind
 shows_trap : (kind : Trap) (t : Transition) → Shows (Trapped kind) t → (n : ℕ) × (t ≡ Traps kind n)
 shows_trap kind (Continues n next) s = absurd s
 shows_trap kind (Prints w next) s = cc

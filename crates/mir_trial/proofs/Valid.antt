@@ -20,7 +20,8 @@ use Rattle.mir_trial.proofs.Spelled.{unit_one}
 
 -- ---- what the instructions behind the receives are
 
--- no receive, and no trap instruction; a jump goes behind the receives and within the body; a call is of the next unit, with two arguments
+-- no receive, and no trap instruction; a jump goes behind the receives and within the body; a call is of the next unit,
+-- with two arguments
 abbrev Inner : ℕ → ℕ → Bool → Inst → Type 0
 Inner total next last (Receive x) = ⊥
 Inner total next last (Assign x rhs) = Unit {0}

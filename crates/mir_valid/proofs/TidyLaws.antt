@@ -73,7 +73,7 @@ form numbers (Call o f others) =
 form numbers (Print a) = operand numbers.vars a
 form numbers (Return o) = returned numbers.vars o
 
--- and so it does in a body
+-- numbering a body numbers the names in it, in their order
 body : (numbers : Numbers) (insts : List RawInst) → flat_map inst_vars (numbered_body numbers insts) ≡ map (number_or_zero numbers.vars) (body_names insts)
 body numbers [] = refl
 body numbers (inst ∷ insts) =

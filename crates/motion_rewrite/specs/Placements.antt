@@ -53,7 +53,7 @@ pub record DownLaws (graph : GraphShape) (e : Expr) (Down : ℕ → Type 0) : Ty
   -- a Skip whose successor is down is down
   pub skips : (n s : ℕ) → slice_get graph.nodes n ≡ Some (Skip s) → Down s → Down n
 
--- available, or down by the rule
+-- n is safe: the expression is available there, or n is down by the rule
 abbrev pub IsSafe : GraphShape → Expr → (ℕ → Type 0) → ℕ → Type 0
 IsSafe graph e Down n = IsAvailable graph e n ⊎ Down n
 

@@ -7,7 +7,7 @@ use Rattle.flow_graph.specs.ListLaws.{set_elsewhere, set_here}
 use Rattle.flow_graph.specs.Numbering.{is_in}
 use Rattle.program_pass.specs.Marks.{AreMarksOf}
 
--- the mark of x, which with the rest of the numbers tells whether x is one of all
+-- x is one of the numbers exactly where its mark is set or it is one of the rest, which are not marked yet
 pub record IsSet (numbers rest : List ℕ) (marks : List Bool) (x : ℕ) : Type 0 where
   pub mark : Bool
   pub here : slice_get marks x ≡ Some mark

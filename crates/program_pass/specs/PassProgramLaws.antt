@@ -36,7 +36,7 @@ module _ (Exact Between : PassRelation) where
   middles_of number (s ∷ sources) [] made = []
   middles_of number (s ∷ sources) (t ∷ targets) made = (made 0 s t refl refl).keeps.middle ∷ middles_of (λ u. number (suc u)) sources targets (λ u. made (suc u))
 
-  -- the units and the graphs of one number
+  -- the units and the graphs of number u, of the source, between and of the target
   pub record At (number : ℕ → ℕ) (sources targets : List UnitShape) (graphs middles : List GraphShape) (u : ℕ) : Type 0 where
     pub source : UnitShape
     pub target : UnitShape
@@ -46,7 +46,7 @@ module _ (Exact Between : PassRelation) where
     pub graph_at : slice_get graphs u ≡ Some made.cleaned
     pub middle_at : slice_get middles u ≡ Some made.keeps.middle
 
-  -- of each number
+  -- there are such units and graphs of each number
   made_at : (number : ℕ → ℕ) (sources targets : List UnitShape) (made : MadeOf number sources targets)
       → length targets ≡ length sources → (u : ℕ) → u < length sources
       → At number sources targets (graphs_of number sources targets made) (middles_of number sources targets made) u

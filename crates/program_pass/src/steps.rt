@@ -17,7 +17,7 @@ pub struct PassSteps {
     pub cleaned: Graph,
     /// What the pass made of it.
     pub passed: Graph,
-    /// The same with clean jumps.
+    /// The graph that the pass made, with clean jumps.
     pub swept: Graph,
 }
 

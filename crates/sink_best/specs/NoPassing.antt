@@ -180,7 +180,7 @@ module _ (graph : GraphShape) (is_graph : IsGraph graph.vars graph.received grap
               omega (arith, rest, here)
         ]
 
-    -- so none where it is not put
+    -- so where the pattern is not put before a node, the chain before the node has none of it
     unput_none : (n : ℕ) → (put_for (inserts n) x ≡ Some t → ⊥) → sum_on theirs (chain_before way graph.nodes n) ≡ 0
     unput_none n not = chain_none n (length (inserts n)) (omega arith) (λ i lt at. not (listed_put (inserts n) i (pattern x t) (round_sinks.apart n) at))
 

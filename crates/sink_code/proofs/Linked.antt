@@ -50,7 +50,7 @@ all_below inserts (suc count) n bound le i q at = below_append (puts_at n (inser
 
 -- ---- the insertions
 
--- those of one node make its chain
+-- the insertions before one node are written as the chain before it
 linked_at : (n k : ℕ) (puts : List Insertion) (rest : List PutBefore) → ((j : ℕ) → next_or_node n j (slice_get rest 0) ≡ n) → linked k (puts_at n puts ++ rest) ≡ chain n k puts ++ linked (k + length puts) rest
 linked_at n k [] rest none = ap (λ j. linked j rest) (omega arith)
 linked_at n k (put ∷ puts) rest none =
@@ -61,13 +61,13 @@ linked_at n k (put ∷ puts) rest none =
     leads [] = none (suc k)
     leads (p ∷ ps) = ap (λ b. if b then suc k else n) (eq-eqb n n refl)
 
--- one by one: the next of these, and those after it
+-- what is written from insertion number i on: its node, and then what is written from the next one on
 pub one_linked : (puts : List PutBefore) (i k : ℕ) (put : PutBefore) → slice_get puts i ≡ Some put → linked k (drop i puts) ≡ Assign put.var put.rhs (next_or_node put.node (suc k) (slice_get puts (suc i))) ∷ linked (suc k) (drop (suc i) puts)
 one_linked [] i k put at = absurd (omega (arith, slice_get_within [] i put at))
 one_linked (p ∷ puts) zero k put at = ap (λ (q : PutBefore). Assign q.var q.rhs (next_or_node q.node (suc k) (slice_get puts 0)) ∷ linked (suc k) puts) (same_Some p put at)
 one_linked (p ∷ puts) (suc i) k put at = one_linked puts i k put at
 
--- so one more is written
+-- once one more insertion is written, what is written and what is still to be written make the whole
 pub more_linked : (puts : List PutBefore) (i olds : ℕ) (put : PutBefore) (pushed whole : List Node) (next : ℕ) → slice_get puts i ≡ Some put → next ≡ next_or_node put.node (olds + i + 1) (slice_get puts (i + 1)) → pushed ++ linked (olds + i) (drop i puts) ≡ whole → (pushed ++ Assign put.var put.rhs next ∷ []) ++ linked (olds + (i + 1)) (drop (i + 1) puts) ≡ whole
 more_linked puts i olds put pushed whole next at is all =
     let one : i + 1 ≡ suc i = omega arith in

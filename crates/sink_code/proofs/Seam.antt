@@ -138,7 +138,7 @@ module _ (n : ℕ) where
       by true rest = rest
       by false rest = below
 
--- where none is before a node of some, there is none
+-- puts that begin at node n or later, and stand before nodes below n alone, are none
 none_left : (n var : ℕ) (puts : List PutBefore) → AscendFrom n var puts → AllBefore (n + 0) puts → puts ≡ []
 none_left n var [] up below = refl
 none_left n var (put ∷ puts) up below = absurd (elim up.0 [ inl gt ↦ (let lt = below.0 in omega (arith, gt, lt)) | inr same ↦ (let at = same.0 in let lt = below.0 in omega (arith, at, lt)) ])

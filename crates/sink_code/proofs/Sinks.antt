@@ -162,7 +162,7 @@ module _ (graph : GraphShape) (lists : List (List ℕ)) (block index : ℕ) (lis
             get_end [] l = refl
             get_end (x ∷ xs) l = get_end xs l
 
-    -- at a Return it is gone
+    -- behind a Return no path goes on, so there it is neither put nor does it leave the block
     pub gone_found : length list ≤ stop_from graph list (suc index) p → goes_on graph list ≡ false → new ≡ old → AreFoundFrom graph lists block index new
     gone_found free off same = subst (AreFoundFrom graph lists block index) (sym same) (one_found p old old occurs found (found_same old) found.sunk (record {
       put = λ m at. absurd (none-some m (sym (slice_get_past list (stop_from graph list (suc index) p) free) ∙ at));

@@ -62,7 +62,7 @@ module _ (graph : GraphShape) (is_graph : IsGraph graph.vars graph.received grap
         let same : i + suc more ≡ suc i + more = omega arith in
         delayed_on more (suc i) some.0 n some.1 (ap (slice_get list) (sym same) ∙ to) (λ k l low high e. none k l (omega (arith, low)) (omega (arith, high, same)) e) next
 
-    -- so an occurrence is delayed at each node to which none before it blocks the pattern
+    -- so the pattern is delayed at each node of the list behind an occurrence with no node between that blocks it
     pub occurs_delayed : (to n : ℕ) → slice_get list to ≡ Some n → OccursBefore list to → IsDelayedTo graph x t n
     occurs_delayed to n at o =
         let some = some_at list (suc o.at) (let within = slice_get_within list to n at in let lt = o.before in omega (arith, within, lt)) in

@@ -17,15 +17,18 @@ use Rattle.sink_code.specs.PatternRows.{AreRowsTelling, ArePatternRows}
 
 -- the rows say at which nodes each pattern is blocked
 abbrev pub AreBlockedIn : OverBlocks → List (List Bool) → Type 0
-AreBlockedIn over rows = ArePatternRows over.graph.now over.table.now (λ x t. blocks_at x t over.graph.now) rows
+AreBlockedIn over rows =
+    ArePatternRows over.graph.now over.table.now (λ x t. blocks_at x t over.graph.now) rows
 
 -- at which each is delayed
 abbrev pub AreDelayedIn : OverBlocks → List (List Bool) → Type 0
-AreDelayedIn over rows = AreRowsTelling over.graph.now over.table.now (IsDelayedTo over.graph.now) rows
+AreDelayedIn over rows =
+    AreRowsTelling over.graph.now over.table.now (IsDelayedTo over.graph.now) rows
 
 -- and before which each is inserted
 abbrev pub AreInsertedIn : OverBlocks → List (List Bool) → Type 0
-AreInsertedIn over rows = AreRowsTelling over.graph.now over.table.now (IsInsertedAt over.graph.now) rows
+AreInsertedIn over rows =
+    AreRowsTelling over.graph.now over.table.now (IsInsertedAt over.graph.now) rows
 
 -- ---- one node
 
@@ -42,7 +45,8 @@ pub record IsPassedOver (over : OverBlocks) (n row : ℕ) (old new : List (List 
   pub others : (m : ℕ) → m ≢ row → row_of new m ≡ row_of old m
   pub bits : (k : ℕ) (p : Pattern) → slice_get over.table.now k ≡ Some p
       → has_bit new k row
-      ≡ (occurs_at p.var p.rhs over.graph.now n || (has_bit old k row && not (blocks_at p.var p.rhs over.graph.now n)))
+      ≡ (occurs_at p.var p.rhs over.graph.now n
+      || (has_bit old k row && not (blocks_at p.var p.rhs over.graph.now n)))
 
 -- to one row is joined what comes past node `before`, of which the old rows say what came to it, and the others are as
 -- they were
@@ -53,7 +57,9 @@ pub record IsHandedOver (over : OverBlocks) (before node : ℕ)
   pub others : (m : ℕ) → m ≢ node → row_of new m ≡ row_of old m
   pub bits : (k : ℕ) (p : Pattern) → slice_get over.table.now k ≡ Some p
       → has_bit new k node
-      ≡ (occurs_at p.var p.rhs over.graph.now before || (has_bit old k node || (has_bit old k before && not (blocks_at p.var p.rhs over.graph.now before))))
+      ≡ (occurs_at p.var p.rhs over.graph.now before
+      || (has_bit old k node
+      || (has_bit old k before && not (blocks_at p.var p.rhs over.graph.now before))))
 
 -- ---- one block after the other
 

@@ -31,11 +31,13 @@ index_in places x block len = index_or block len (slice_get places x)
 -- the nearest of an index and of those noted for these variables
 abbrev pub nearest : List BlockPlace → ℕ → ℕ → ℕ → List ℕ → ℕ
 nearest places block len index [] = index
-nearest places block len index (y ∷ ys) = nearest places block len (min (index_in places y block len) index) ys
+nearest places block len index (y ∷ ys) =
+    nearest places block len (min (index_in places y block len) index) ys
 
 -- of what is noted for the variable of a pattern, read or assigned, and for those of its right side, assigned
 abbrev pub stop_by : BlockPlaces → ℕ → ℕ → Pattern → ℕ
-stop_by places block len p = nearest places.assign.items block len (index_in places.access.items p.var block len) (rhs_vars p.rhs)
+stop_by places block len p = nearest places.assign.items block len
+    (index_in places.access.items p.var block len) (rhs_vars p.rhs)
 
 -- what is noted once the node at this place is taken in
 pub record TakesInNode (graph : GraphShape) (node : Node) (place : BlockPlace)
@@ -78,7 +80,8 @@ pub record AreTakenIn (graph : GraphShape) (block index : ℕ) (list : List ℕ)
   pub assign_long : length places.assign.items ≡ length graph.vars
   pub access_from : AreFrom block places.access.items
   pub assign_from : AreFrom block places.assign.items
-  pub access : TellFirst (length graph.vars) (accesses_at graph) block index list places.access.items
+  pub access : TellFirst (length graph.vars) (accesses_at graph) block index
+      list places.access.items
   pub assign : TellFirst (length graph.vars) (assigns_at graph) block index list places.assign.items
 
 -- the places of a graph, of this block and of later ones

@@ -17,7 +17,8 @@ IsDelayedTo graph x t n = BornBefore graph.nodes (occurs_at x t graph) (blocks_a
 -- it is inserted before n: it is delayed at n, and n blocks it or has a successor at which it is not delayed
 abbrev pub IsInsertedAt : GraphShape → ℕ → Rhs → ℕ → Type 0
 IsInsertedAt graph x t n = IsDelayedTo graph x t n
-    × ((blocks_at x t graph n ≡ true) ⊎ ((s : ℕ) × HasEdge graph.nodes n s × ¬ (IsDelayedTo graph x t s)))
+    × ((blocks_at x t graph n ≡ true)
+    ⊎ ((s : ℕ) × HasEdge graph.nodes n s × ¬ (IsDelayedTo graph x t s)))
 
 -- where a pattern is inserted before node n though n does not block it, n is a Skip: n leads to a node that others lead
 -- to, at which the pattern is not delayed

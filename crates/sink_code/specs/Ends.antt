@@ -28,5 +28,6 @@ pub record AreEndedTo (over : OverBlocks) (count : ℕ) (rows : List (List Bool)
   pub ended : (number k : ℕ) (p : Pattern) (edge : Edge) → number < count
       → slice_get over.table.now k ≡ Some p → slice_get over.edges.now.edges number ≡ Some edge
       → IsFirst over.graph.now.nodes edge.target
-      → IsDelayedTo over.graph.now p.var p.rhs edge.source → (IsDelayedTo over.graph.now p.var p.rhs edge.target → ⊥) → has_bit rows k edge.source
+      → IsDelayedTo over.graph.now p.var p.rhs edge.source
+      → (IsDelayedTo over.graph.now p.var p.rhs edge.target → ⊥) → has_bit rows k edge.source
       ≡ true

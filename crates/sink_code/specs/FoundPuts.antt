@@ -87,7 +87,8 @@ pub record ArePutAtEnds (graph : GraphShape) (lists : List (List ℕ)) (table : 
   pub grows : Grows puts now
   pub only : (i : ℕ) (put : PutBefore) → slice_get now i ≡ Some put
       → Contains puts put
-      ⊎ ((b : ℕ) × (p : Pattern) × LeavesAtEnd graph lists table into leaves b put.node p × (put ≡ put_at put.node p))
+      ⊎ ((b : ℕ) × (p : Pattern) × LeavesAtEnd graph lists table into leaves b put.node p
+      × (put ≡ put_at put.node p))
   pub all : (b n : ℕ) (p : Pattern) → b < below → LeavesAtEnd graph lists table into leaves b n p
       → Contains now (put_at n p)
 

@@ -26,19 +26,24 @@ pub record IsSettled (over : OverBlocks) (block number : ℕ) (leaves : List (Li
   pub p : Pattern
   pub is_block : slice_get (lists_of over) block ≡ Some list
   pub numbered : slice_get over.table.now number ≡ Some p
-  pub either : ((n : ℕ) × (slice_get list (stop_from over.graph.now list 0 p) ≡ Some n) × (rows ≡ leaves) × (now ≡ puts ++ put_at n p ∷ []))
-      ⊎ ((length list ≤ stop_from over.graph.now list 0 p) × (rows ≡ slice_set leaves block (slice_set (row_of leaves block) number true)) × (now ≡ puts))
+  pub either : ((n : ℕ) × (slice_get list (stop_from over.graph.now list 0 p) ≡ Some n)
+      × (rows ≡ leaves) × (now ≡ puts ++ put_at n p ∷ []))
+      ⊎ ((length list ≤ stop_from over.graph.now list 0 p)
+      × (rows ≡ slice_set leaves block (slice_set (row_of leaves block) number true))
+      × (now ≡ puts))
 
 -- of the blocks from this one on all patterns that come into them are settled
 abbrev pub AreHeadsDone : OverBlocks → List (List Bool) → List (List Bool) → List PutBefore → ℕ
     → List (List Bool) → List PutBefore → Type 0
-AreHeadsDone over into leaves puts block rows now = AreFromHeadsOver over into leaves puts (λ b k. block ≤ b) rows now
+AreHeadsDone over into leaves puts block rows now =
+    AreFromHeadsOver over into leaves puts (λ b k. block ≤ b) rows now
 
 -- of the later blocks, and of this one those below a number and those whose bits are not set in this row
 abbrev pub AreHeadDone : OverBlocks → List (List Bool) → List Bool → List (List Bool)
     → List PutBefore → ℕ → ℕ → List (List Bool) → List PutBefore → Type 0
 AreHeadDone over into row leaves puts block number rows now =
-    AreFromHeadsOver over into leaves puts (λ b k. (block < b) ⊎ ((b ≡ block) × ((k < number) ⊎ (row_bit row k ≡ false)))) rows now
+    AreFromHeadsOver over into leaves puts
+    (λ b k. (block < b) ⊎ ((b ≡ block) × ((k < number) ⊎ (row_bit row k ≡ false)))) rows now
 
 -- the successor of a Skip
 abbrev pub skip_to : Node → Option ℕ

@@ -109,7 +109,8 @@ pub record AreInside (graph : GraphShape) (lists : List (List ℕ)) (found : Ins
 -- of all blocks from this one on
 abbrev pub AreInsideFrom : GraphShape → List (List ℕ) → ℕ → Inside → Type 0
 AreInsideFrom graph lists block found = AreSunkInside graph lists found
-    × ((b i : ℕ) (list : List ℕ) (p : Pattern) → block ≤ b → slice_get lists b ≡ Some list → OccursAt graph list i p → IsFoundAt graph b list i p found)
+    × ((b i : ℕ) (list : List ℕ) (p : Pattern) → block ≤ b → slice_get lists b ≡ Some list
+    → OccursAt graph list i p → IsFoundAt graph b list i p found)
 
 -- ---- one block
 

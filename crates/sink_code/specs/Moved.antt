@@ -23,4 +23,5 @@ pub record AreListedRows (over : OverBlocks) (leaving : List Leaving)
     (rows : List (List Bool)) : Type 0 where
   pub shape : HaveShapeOver over rows
   pub are : (b k : ℕ)
-      → (has_bit rows k b ≡ true) ↔ ((i : ℕ) × (slice_get leaving i ≡ Some (record { block = b; number = k })))
+      → (has_bit rows k b ≡ true)
+      ↔ ((i : ℕ) × (slice_get leaving i ≡ Some (record { block = b; number = k })))

@@ -26,11 +26,13 @@ HaveShapeOver over rows = AreRows (length (lists_of over)) (length over.table.no
 
 -- the rows say which patterns are blocked in each block
 abbrev pub AreBlockedOver : OverBlocks → List (List Bool) → Type 0
-AreBlockedOver over rows = AreBlockRows (lists_of over) over.table.now (is_blocked_in over.graph.now) rows
+AreBlockedOver over rows =
+    AreBlockRows (lists_of over) over.table.now (is_blocked_in over.graph.now) rows
 
 -- which leave a block in which they occur
 abbrev pub AreLeavingOver : OverBlocks → List (List Bool) → Type 0
-AreLeavingOver over rows = AreBlockRows (lists_of over) over.table.now (leaves_own over.graph.now) rows
+AreLeavingOver over rows =
+    AreBlockRows (lists_of over) over.table.now (leaves_own over.graph.now) rows
 
 -- and which come into it: they are delayed at its first node
 abbrev pub AreIntoOver : OverBlocks → List (List Bool) → Type 0
@@ -39,9 +41,11 @@ AreIntoOver over rows = AreInto over.graph.now (lists_of over) over.table.now ro
 -- of the patterns that come into these blocks, by number, each is put or leaves its block, and all else is as it was
 abbrev pub AreFromHeadsOver : OverBlocks → List (List Bool) → List (List Bool) → List PutBefore
     → (ℕ → ℕ → Type 0) → List (List Bool) → List PutBefore → Type 0
-AreFromHeadsOver over into leaves puts done rows now = AreFromHeads over.graph.now (lists_of over) over.table.now into leaves puts done rows now
+AreFromHeadsOver over into leaves puts done rows now =
+    AreFromHeads over.graph.now (lists_of over) over.table.now into leaves puts done rows now
 
 -- at the ends of the blocks below this number their patterns are put
 abbrev pub ArePutAtEndsOver : OverBlocks → List (List Bool) → List (List Bool) → ℕ → List PutBefore
     → List PutBefore → Type 0
-ArePutAtEndsOver over into leaves below puts now = ArePutAtEnds over.graph.now (lists_of over) over.table.now into leaves below puts now
+ArePutAtEndsOver over into leaves below puts now =
+    ArePutAtEnds over.graph.now (lists_of over) over.table.now into leaves below puts now

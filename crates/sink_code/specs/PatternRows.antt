@@ -18,12 +18,14 @@ use Rattle.sink_code.specs.declared.pattern_rows.ByVariable.{ByVariable}
 -- one row for each node and one bit for each pattern: whether the test holds of the pattern at the node
 abbrev pub ArePatternRows : GraphShape → List Pattern → (ℕ → Rhs → ℕ → Bool) → List (List Bool)
     → Type 0
-ArePatternRows graph table holds rows = AreKeyRows (length graph.nodes) table (λ p. holds p.var p.rhs) rows
+ArePatternRows graph table holds rows =
+    AreKeyRows (length graph.nodes) table (λ p. holds p.var p.rhs) rows
 
 -- the same of a statement in place of a test
 abbrev pub AreRowsTelling : GraphShape → List Pattern → (ℕ → Rhs → ℕ → Type 0) → List (List Bool)
     → Type 0
-AreRowsTelling graph table Holds rows = AreKeyRowsWhere (length graph.nodes) table (λ p. Holds p.var p.rhs) rows
+AreRowsTelling graph table Holds rows =
+    AreKeyRowsWhere (length graph.nodes) table (λ p. Holds p.var p.rhs) rows
 
 -- ---- blocked patterns, by variable
 
@@ -63,13 +65,19 @@ pub record JoinsRows (from : List (List Bool)) (vars : List ℕ) (row : ℕ)
 abbrev pub blocked_row : List (List Bool) → List (List Bool) → ℕ → ℕ → Node → List Bool
 blocked_row assigning naming bits shared (Start next) = replicate bits true
 blocked_row assigning naming bits shared (Skip next) = replicate bits false
-blocked_row assigning naming bits shared (Assign x rhs next) = row_joined naming (x ∷ []) (row_joined assigning (rhs_vars rhs) (replicate bits false))
-blocked_row assigning naming bits shared (Print a next) = row_joined assigning (operand_vars a) (replicate bits false)
-blocked_row assigning naming bits shared (Guard test number next) = row_joined assigning (test_vars test) (replicate bits false)
+blocked_row assigning naming bits shared (Assign x rhs next) =
+    row_joined naming (x ∷ []) (row_joined assigning (rhs_vars rhs) (replicate bits false))
+blocked_row assigning naming bits shared (Print a next) =
+    row_joined assigning (operand_vars a) (replicate bits false)
+blocked_row assigning naming bits shared (Guard test number next) =
+    row_joined assigning (test_vars test) (replicate bits false)
 blocked_row assigning naming bits shared (Call into unit operands next) =
-    row_joined naming (shared_vars shared ++ into_vars into) (row_joined assigning (flat_map operand_vars operands) (replicate bits false))
-blocked_row assigning naming bits shared (Test test taken other) = row_joined assigning (test_vars test) (replicate bits false)
-blocked_row assigning naming bits shared (Return a) = row_joined assigning (shared_vars shared ++ operand_vars a) (replicate bits false)
+    row_joined naming (shared_vars shared ++ into_vars into)
+    (row_joined assigning (flat_map operand_vars operands) (replicate bits false))
+blocked_row assigning naming bits shared (Test test taken other) =
+    row_joined assigning (test_vars test) (replicate bits false)
+blocked_row assigning naming bits shared (Return a) =
+    row_joined assigning (shared_vars shared ++ operand_vars a) (replicate bits false)
 
 -- each row is that of what its node blocks
 abbrev pub AreBlockedRows : List (List Bool) → List (List Bool) → ℕ → ℕ → List Node
@@ -99,6 +107,7 @@ reads_in shared (Return a) = shared_vars shared ++ operand_vars a
 pub record JoinsBlocked (assigning naming : List (List Bool)) (shared : ℕ) (node : Node) (row : ℕ)
     (old new : List (List Bool)) : Type 0 where
   pub rows : new
-      ≡ joined_at naming (assigns_of shared node) row (joined_at assigning (reads_in shared node) row old)
+      ≡ joined_at naming (assigns_of shared node) row
+      (joined_at assigning (reads_in shared node) row old)
   pub len : length new ≡ length old
   pub long : length (row_of new row) ≡ length (row_of old row)

@@ -26,7 +26,8 @@ pattern_of _ = None
 
 -- the node assigns the variable of the pattern or one of its right side
 abbrev pub touches_pattern : GraphShape → Node → Pattern → Bool
-touches_pattern graph node p = assigns graph p.var node || list_any (λ y. assigns graph y node) (rhs_vars p.rhs)
+touches_pattern graph node p =
+    assigns graph p.var node || list_any (λ y. assigns graph y node) (rhs_vars p.rhs)
 
 -- a call whose result goes to y assigns z, where so many variables are globals
 abbrev pub assigns_in : ℕ → ℕ → ℕ → Bool

@@ -15,7 +15,8 @@ insertion_of_pattern p = record { var = p.var; rhs = p.rhs }
 abbrev pub chosen : List Pattern → List Bool → List Insertion
 chosen [] row = []
 chosen (p ∷ table) [] = []
-chosen (p ∷ table) (bit ∷ row) = if bit then insertion_of_pattern p ∷ chosen table row else chosen table row
+chosen (p ∷ table) (bit ∷ row) =
+    if bit then insertion_of_pattern p ∷ chosen table row else chosen table row
 
 -- the pattern inserted before node n
 abbrev pub put_at : ℕ → Pattern → PutBefore

@@ -121,7 +121,8 @@ pub record Sinks (graph : GraphShape) (r : Rewriting) (late : ℕ → ℕ → Op
   pub only : (n : ℕ) (node : Node) → slice_get graph.nodes n ≡ Some node
       → (r.changes n ≡ Unchanged) ⊎ ((r.changes n ≡ Removed)
       × ((x : ℕ) × (rhs : Rhs) × (next : ℕ) × (node ≡ Assign x rhs next)))
-  -- nothing is delayed after Start, and what is delayed of a variable that a node reads is put before it
+  -- nothing is delayed after Start, and what is delayed of a variable that a node reads is put
+  -- before it
   pub starts : (s x : ℕ) → HasEdge graph.nodes 0 s → late s x ≡ None
   pub reads : (n : ℕ) (node : Node) → slice_get graph.nodes n ≡ Some node
       → AllPut (late n) (r.inserts n) (node_reads graph node)
@@ -133,7 +134,8 @@ pub record Sinks (graph : GraphShape) (r : Rewriting) (late : ℕ → ℕ → Op
       → late s x ≡ Some rhs
       → ((r.changes n ≡ Removed) × ((next : ℕ) × (node ≡ Assign x rhs next)))
       ⊎ ((assigns graph x node ≡ false)
-      × (NoneAssigned graph node (rhs_vars rhs) × ((late n x ≡ Some rhs) × NonePut (r.inserts n) (rhs_vars rhs))))
+      × (NoneAssigned graph node (rhs_vars rhs)
+      × ((late n x ≡ Some rhs) × NonePut (r.inserts n) (rhs_vars rhs))))
   -- what is removed never traps, and is delayed from there
   pub removed : (n s x : ℕ) (rhs : Rhs) → slice_get graph.nodes n ≡ Some (Assign x rhs s)
       → r.changes n ≡ Removed

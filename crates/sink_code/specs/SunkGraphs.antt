@@ -37,7 +37,11 @@ emptied sinkable = if sinkable then Removed else Unchanged
 
 -- occurrences become Skips, and these stand before each node
 abbrev pub sinking : GraphShape → (ℕ → List Insertion) → Rewriting
-sinking graph inserts = record { inserts = inserts; changes = λ n. emptied (is_sinkable (slice_get graph.nodes n)) }
+sinking graph
+    inserts = record {
+      inserts = inserts;
+      changes = λ n. emptied (is_sinkable (slice_get graph.nodes n));
+    }
 
 -- the graph in which the assignments have sunk
 pub record IsSunk (graph sunk : GraphShape) : Type 0 where

@@ -35,9 +35,11 @@ next_or_node node number (Some put) = if nat_eq put.node node then number else n
 -- the nodes of insertions that are numbered from k on
 abbrev pub linked : ℕ → List PutBefore → List Node
 linked k [] = []
-linked k (put ∷ puts) = Assign put.var put.rhs (next_or_node put.node (suc k) (slice_get puts 0)) ∷ linked (suc k) puts
+linked k (put ∷ puts) =
+    Assign put.var put.rhs (next_or_node put.node (suc k) (slice_get puts 0)) ∷ linked (suc k) puts
 
 -- all nodes
 abbrev pub written_nodes : List PutBefore → List Node → List Node
 written_nodes puts nodes =
-    map (written_old (edge_ends (numbers_below (length nodes)) (length nodes) puts)) nodes ++ linked (length nodes) puts
+    map (written_old (edge_ends (numbers_below (length nodes)) (length nodes) puts)) nodes
+    ++ linked (length nodes) puts

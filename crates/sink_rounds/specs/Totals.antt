@@ -21,7 +21,8 @@ abbrev with_node : Option Node → List Insertion → List Insertion
 with_node None l = l
 with_node (Some (Start next)) l = l
 with_node (Some (Skip next)) l = l
-with_node (Some (Assign x rhs next)) l = if divides rhs then l else record { var = x; rhs = rhs } ∷ l
+with_node (Some (Assign x rhs next)) l =
+    if divides rhs then l else record { var = x; rhs = rhs } ∷ l
 with_node (Some (Print a next)) l = l
 with_node (Some (Guard test number next)) l = l
 with_node (Some (Call into unit operands next)) l = l

@@ -11,7 +11,8 @@ use Rattle.tail_loop.specs.declared.calls.Answered.{Answered}
 -- which there are so many
 abbrev pub answered_call : ℕ → ℕ → Node → Option Answered
 answered_call shared unit (Call (Some x) called operands next) =
-    if nat_eq called unit then (if nat_lt x shared then None else Some (record { into = x; next = next })) else None
+    if nat_eq called unit
+    then (if nat_lt x shared then None else Some (record { into = x; next = next })) else None
 answered_call shared unit _ = None
 
 -- the variable that the node returns

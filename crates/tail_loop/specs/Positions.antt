@@ -50,9 +50,11 @@ HasPosition shared nodes unit n called (Then there) =
 
 -- node n is a call that stands like this, or none
 abbrev pub IsCallPosition : ℕ → List Node → ℕ → ℕ → Option CallPosition → Type 0
-IsCallPosition shared nodes unit n None = (into : Option ℕ) (called : ℕ) (operands : List Operand) (next : ℕ)
+IsCallPosition shared nodes unit n None =
+    (into : Option ℕ) (called : ℕ) (operands : List Operand) (next : ℕ)
     → slice_get nodes n ≢ Some (Call into called operands next)
-IsCallPosition shared nodes unit n (Some call) = HasPosition shared nodes unit n call.unit call.position
+IsCallPosition shared nodes unit n (Some call) =
+    HasPosition shared nodes unit n call.unit call.position
 
 -- so it is of the first nodes
 abbrev pub EachCallPosition : ℕ → List Node → ℕ → List (Option CallPosition) → Type 0

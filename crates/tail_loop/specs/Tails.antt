@@ -60,7 +60,8 @@ saved first (a ∷ operands) = record { var = first; rhs = Plain a } ∷ saved (
 -- the received variables are set to the variables from number `first` on
 abbrev pub moved : ℕ → List ℕ → List Insertion
 moved first [] = []
-moved first (x ∷ received) = record { var = x; rhs = Plain (Var first) } ∷ moved (suc first) received
+moved first (x ∷ received) = record { var = x; rhs = Plain (Var first) }
+    ∷ moved (suc first) received
 
 -- of so many variables from number x on, those that are not received are set to 0
 abbrev pub cleared : List ℕ → ℕ → ℕ → List Insertion

@@ -34,7 +34,8 @@ pub record AreLeavesMade (units : List UnitShape) (leaves : List (Option GraphSh
 pub record HasLeafCopies (graph : GraphShape) (leaves : List (Option GraphShape))
     (wide : GraphShape) : Type 0 where
   pub names : List (List ℕ)
-  pub are_names : AreTemporaryNames graph.vars (copies leaves (called_leaves leaves graph.nodes)) names
+  pub are_names : AreTemporaryNames graph.vars
+      (copies leaves (called_leaves leaves graph.nodes)) names
   pub differ : AllDiffer (graph.vars ++ names)
   pub is : wide ≡ record graph { vars = graph.vars ++ names }
 
@@ -42,9 +43,11 @@ pub record HasLeafCopies (graph : GraphShape) (leaves : List (Option GraphShape)
 pub record JoinMade (graph : GraphShape) (leaves : List (Option GraphShape)) (at_calls : List ℕ)
     (joined : GraphShape) : Type 0 where
   pub names : List (List ℕ)
-  pub are_names : AreTemporaryNames graph.vars (copies leaves (called_leaves leaves graph.nodes)) names
+  pub are_names : AreTemporaryNames graph.vars
+      (copies leaves (called_leaves leaves graph.nodes)) names
   pub nodes : List Node
-  pub are_joined : LeavesAreJoined leaves (called_leaves leaves graph.nodes) graph at_calls graph.nodes nodes
+  pub are_joined : LeavesAreJoined leaves (called_leaves leaves graph.nodes) graph
+      at_calls graph.nodes nodes
   pub made : IsMade graph.name graph.shared (graph.vars ++ names) graph.received nodes joined
   pub same : UnitSame (graph_machine graph.shared graph.received nodes) (machine_of joined)
   pub cheaper : UnitCheaper (graph_machine graph.shared graph.received nodes) (machine_of joined)

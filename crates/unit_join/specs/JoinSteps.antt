@@ -16,7 +16,8 @@ AllJoined leaves unit graph joined = IsJoined graph leaves joined
 
 -- the unit of this number is lowered, cleaned, joined with all leaves that it calls, and cleaned like this; laid out it
 -- has so many instructions
-pub record IsJoinMade (leaves : List (Option GraphShape)) (unit : UnitShape) (number : ℕ) (made : JoinSteps)
+pub record IsJoinMade (leaves : List (Option GraphShape)) (unit : UnitShape) (number : ℕ)
+    (made : JoinSteps)
     : Type 0 where
   pub are : ArePassSteps (AllJoined leaves) unit number made.steps
   pub laid : UnitShape

@@ -82,7 +82,8 @@ leaf_vars (Some leaf) = length leaf.vars - leaf.shared
 abbrev pub first_copy : List (Option GraphShape) → List ℕ → ℕ → ℕ → ℕ
 first_copy leaves [] first unit = first
 first_copy leaves (u ∷ units) first unit =
-    if nat_eq u unit then first else first_copy leaves units (first + leaf_vars (leaf_at leaves u)) unit
+    if nat_eq u unit then first
+    else first_copy leaves units (first + leaf_vars (leaf_at leaves u)) unit
 
 -- how many copies there are
 abbrev pub copies : List (Option GraphShape) → List ℕ → ℕ
@@ -104,7 +105,8 @@ copy_in shared leaves units vars unit x = copy_number shared (first_copy leaves 
 abbrev pub entered : (ℕ → ℕ) → List ℕ → List Operand → List Insertion
 entered copy [] operands = []
 entered copy (x ∷ received) [] = []
-entered copy (x ∷ received) (a ∷ operands) = record { var = copy x; rhs = Plain a } ∷ entered copy received operands
+entered copy (x ∷ received) (a ∷ operands) = record { var = copy x; rhs = Plain a }
+    ∷ entered copy received operands
 
 -- of so many variables from number x on, the copies of those that are not received are set to 0
 abbrev pub zeroed : (ℕ → ℕ) → List ℕ → ℕ → ℕ → List Insertion
@@ -116,7 +118,8 @@ zeroed copy received x (suc count) =
 -- the assignments of a call of a leaf
 abbrev pub entry_assignments : (ℕ → ℕ) → GraphShape → List Operand → List Insertion
 entry_assignments copy leaf operands =
-    entered copy leaf.received operands ++ zeroed copy leaf.received leaf.shared (length leaf.vars - leaf.shared)
+    entered copy leaf.received operands
+    ++ zeroed copy leaf.received leaf.shared (length leaf.vars - leaf.shared)
 
 -- a Return gives the value to the variable of the call, where there is one
 abbrev pub returned_node : Option ℕ → Operand → ℕ → Node
@@ -128,11 +131,14 @@ returned_node (Some x) a next = Assign x (Plain a) next
 abbrev pub leaf_node : (ℕ → ℕ) → (ℕ → ℕ) → Option ℕ → ℕ → Node → Node
 leaf_node copy place into next (Start succ) = Skip (place succ)
 leaf_node copy place into next (Skip succ) = Skip (place succ)
-leaf_node copy place into next (Assign x rhs succ) = Assign (copy x) (renamed_rhs copy rhs) (place succ)
+leaf_node copy place into next (Assign x rhs succ) =
+    Assign (copy x) (renamed_rhs copy rhs) (place succ)
 leaf_node copy place into next (Print a succ) = Print (renamed_operand copy a) (place succ)
-leaf_node copy place into next (Guard test number succ) = Guard (renamed_test copy test) number (place succ)
+leaf_node copy place into next (Guard test number succ) =
+    Guard (renamed_test copy test) number (place succ)
 leaf_node copy place into next (Call into' unit operands succ) = Skip (place succ)
-leaf_node copy place into next (Test test taken other) = Test (renamed_test copy test) (place taken) (place other)
+leaf_node copy place into next (Test test taken other) =
+    Test (renamed_test copy test) (place taken) (place other)
 leaf_node copy place into next (Return a) = returned_node into (renamed_operand copy a) next
 
 -- the number of the node that stands for node m of a leaf, whose nodes but Start have the numbers from `first` on
@@ -151,7 +157,8 @@ nodes_with_leaf nodes n copy leaf into operands next =
     stood nodes n (entry_assignments copy leaf operands)
     (leaf_place (first_place (length nodes) (entry_assignments copy leaf operands))
     (start_succ (slice_get leaf.nodes 0)))
-    ++ map (leaf_node copy (leaf_place (first_place (length nodes) (entry_assignments copy leaf operands))) into next)
+    ++ map (leaf_node copy
+    (leaf_place (first_place (length nodes) (entry_assignments copy leaf operands))) into next)
     (drop 1 leaf.nodes)
 
 -- the nodes with the leaf of a call of the graph in its place
@@ -176,9 +183,11 @@ pub record IsJoined (graph : GraphShape) (leaves : List (Option GraphShape))
   pub calls : List ℕ
   pub are_calls : AreLeafCalls leaves graph.nodes calls
   pub names : List (List ℕ)
-  pub are_names : AreTemporaryNames graph.vars (copies leaves (called_leaves leaves graph.nodes)) names
+  pub are_names : AreTemporaryNames graph.vars
+      (copies leaves (called_leaves leaves graph.nodes)) names
   pub nodes : List Node
-  pub are_joined : LeavesAreJoined leaves (called_leaves leaves graph.nodes) graph calls graph.nodes nodes
+  pub are_joined : LeavesAreJoined leaves (called_leaves leaves graph.nodes) graph
+      calls graph.nodes nodes
   pub made : IsMade graph.name graph.shared (graph.vars ++ names) graph.received nodes joined
 
 -- ---- units that would be too long

@@ -65,11 +65,11 @@ undo_both a b numbers steps mid put numbers' steps' p q = record {
 
 -- ---- the globals
 
--- terms that are the same of each variable
+-- numbers that represent terms represent those that are the same of each variable
 represent_same : (table : List TermKey) (numbers : List (Option ℕ)) (root : ℕ) (t u : Terms) → ((v : ℕ) → t v ≡ u v) → Represent table numbers root t → Represent table numbers root u
 represent_same table numbers root t u same r = record { each = λ v lt. subst (RepresentsAt table root v (variable_number numbers v)) (same v) (r.each v lt) }
 
--- no variable is renewed
+-- where the variables below 0 are renewed, none is
 renewed_none : (n : ℕ) (terms : Terms) (v : ℕ) → terms v ≡ renewed_terms n 0 terms v
 renewed_none n terms v = by (nat_lt v 0) refl
   where
@@ -77,7 +77,7 @@ renewed_none n terms v = by (nat_lt v 0) refl
     by true e = absurd (let lt : v < 0 = ltb-true v 0 e in omega (arith, lt))
     by false e = refl
 
--- one more is
+-- renewing variable x after those below x renews those below x + 1
 renewed_more : (n x : ℕ) (terms : Terms) (v : ℕ) → with_term x (Opaque n x) (renewed_terms n x terms) v ≡ renewed_terms n (x + 1) terms v
 renewed_more n x terms v = by (nat_eq v x) (nat_lt v x) (nat_lt v (x + 1)) refl refl refl
   where

@@ -181,19 +181,19 @@ module _ (asked : Asked) (graph : GraphShape) (shifts : ℕ → ℕ → Option S
 
     -- ---- from some number of links on they show no more
 
-    -- all that is shown
+    -- the bits that chains of at most i links show, added up over nodes and variables
     abbrev total : ℕ → ℕ
     total i = sum_all (length graph.vars) (shown i) (length graph.nodes)
 
-    -- it is at most 64 bits of each variable before each node
+    -- 64 bits of each variable before each node, added up
     abbrev top : ℕ
     top = sum_all (length graph.vars) (λ n x. 64) (length graph.nodes)
 
-    -- so it is
+    -- chains show no more than this
     total_most : (i : ℕ) → total i ≤ top
     total_most i = all_less (length graph.vars) (shown i) (λ n x. 64) (length graph.nodes) (shown_most i)
 
-    -- and so it stands still somewhere
+    -- so at some number of links one link more shows no more bits
     rests : (fuel i : ℕ) → top ≤ total i + fuel → (j : ℕ) × (total (suc j) ≤ total j)
     rests zero i le = (i, omega (arith, le, total_most (suc i)))
     rests (suc fuel) i le = elim (cases_lt (total i) (total (suc i))) as (λ _. (j : ℕ) × (total (suc j) ≤ total j)) [

@@ -43,7 +43,7 @@ raised_past bits (Some shift) rhs k = if is_undone shift k
     then raised_at bits shift.source (min k (64 - shift.distance))
     else raised_own (raised_at bits shift.source (min k (64 - shift.distance))) rhs k
 
--- those of these variables, to at least so many each
+-- the numbers in which each of these variables has at least as many bits as `widths` says
 abbrev pub all_raised : (ℕ → ℕ) → List ℕ → List ℕ → List ℕ
 all_raised widths [] bits = bits
 all_raised widths (x ∷ xs) bits = all_raised widths xs (raised_at bits x (widths x))
@@ -85,7 +85,7 @@ abbrev pub assigned_bits : Node → List ℕ → ℕ
 assigned_bits (Assign y rhs next) bits = bits_at bits y
 assigned_bits node bits = 0
 
--- the numbers before a node, whose right side shifts this back, where these are behind it
+-- the numbers before a node, from those behind it; `back` is what its right side shifts back
 abbrev pub bits_through : GraphShape → Asked → Option Shift → Node → List ℕ → List ℕ
 bits_through graph asked back (Assign y rhs next) bits =
     raised_past (slice_set bits y 0) back rhs (bits_at bits y)
@@ -96,12 +96,12 @@ bits_through graph asked back (Return a) bits =
     raised_by (all_raised asked.left (shared_vars graph.shared) bits) a asked.result
 bits_through graph asked back node bits = all_raised whole_width (node_reads graph node) bits
 
--- before the node, where there is one
+-- the numbers before a node, where there is one; else they stay
 abbrev pub bits_past : GraphShape → Asked → Option Shift → Option Node → List ℕ → List ℕ
 bits_past graph asked back None bits = bits
 bits_past graph asked back (Some node) bits = bits_through graph asked back node bits
 
--- before a list of nodes, of which each right side shifts back what this says of its node
+-- the numbers before a list of nodes, from those behind it; `back` has what each node shifts back
 abbrev pub before_list : GraphShape → Asked → (ℕ → Option Shift) → List ℕ → List ℕ → List ℕ
 before_list graph asked back [] bits = bits
 before_list graph asked back (n ∷ list) bits =

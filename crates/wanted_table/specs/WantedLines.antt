@@ -21,8 +21,8 @@ abbrev pub lines_of : ℕ → List (List ℕ) → ℕ → List ℕ
 lines_of vars rows count =
     flat_map (λ n. wanted_line vars n (list_at rows n)) (range_with_len 0 count)
 
--- the text has a line for each node of the graph: how many of the lowest bits of each variable are wanted before it, by the
--- least numbers
+-- the text has a line for each node of the graph: how many of the lowest bits of each variable are wanted before it, by
+-- the least numbers
 pub record AreWantedLines (graph : GraphShape) (text : List ℕ) : Type 0 where
   pub rows : List (List ℕ)
   pub are : AreWantedBefore graph rows
