@@ -1,6 +1,6 @@
 """Texts of LLVM IR for tools/test with the operators of `llvm_bits.py`, of several widths, and what they print."""
 
-WIDTHS = (1, 2, 7, 8, 16, 31, 32, 33, 63, 64)
+WIDTHS = (1, 2, 3, 7, 8, 16, 31, 32, 33, 48, 63, 64)
 INPUTS = ((0, 0), (1, 2), (-1, 1), (5, 63), (-2 ** 63, -1), (-1, -2 ** 63), (2 ** 32, 2 ** 31),
           (3037000500, 3037000500), (-3037000500, 3037000500), (0x0123456789ABCDEF, 12), (2 ** 62, 2), (2 ** 62, -2),
           (-7, 2 ** 61), (4294967296, 4294967296), (4294967295, 4294967297), (6700417, 2753074036095), (255, 8),
@@ -9,8 +9,13 @@ INPUTS = ((0, 0), (1, 2), (-1, 1), (5, 63), (-2 ** 63, -1), (-1, -2 ** 63), (2 *
 
 def signed(number: int, bits: int) -> int:
     """A number as its type has it; of one bit 0 or 1."""
+    return with_sign(number, bits) if bits > 1 else number % 2
+
+
+def with_sign(number: int, bits: int) -> int:
+    """A number with the sign of its highest bit; of one bit 0 or -1."""
     low = number % 2 ** bits
-    return low - 2 ** bits if bits > 1 and low >= 2 ** (bits - 1) else low
+    return low - 2 ** bits if low >= 2 ** (bits - 1) else low
 
 
 def turned(text: str, group: int) -> str:
@@ -20,15 +25,14 @@ def turned(text: str, group: int) -> str:
 
 def overflowed(kind: str, a: int, b: int, bits: int) -> list[int]:
     """What an operator that tells of an overflow makes."""
-    left, right = (signed(a, bits), signed(b, bits)) if kind[0] == 's' else (a, b)
+    left, right = (with_sign(a, bits), with_sign(b, bits)) if kind[0] == 's' else (a, b)
     whole = {'add': left + right, 'sub': left - right, 'mul': left * right}[kind[1:4]]
-    low = signed(whole, bits)
-    return [low, int(whole != (low if kind[0] == 's' else whole % 2 ** bits))]
+    return [signed(whole, bits), int(whole != (with_sign(whole, bits) if kind[0] == 's' else whole % 2 ** bits))]
 
 
 def saturated(kind: str, a: int, b: int, bits: int) -> int:
     """What an operator that stays at its bounds makes."""
-    left, right = (signed(a, bits), signed(b, bits)) if kind[0] == 's' else (a, b)
+    left, right = (with_sign(a, bits), with_sign(b, bits)) if kind[0] == 's' else (a, b)
     low, high = (-2 ** (bits - 1), 2 ** (bits - 1) - 1) if kind[0] == 's' else (0, 2 ** bits - 1)
     return signed(max(low, min(high, left + right if kind.endswith('add') else left - right)), bits)
 
@@ -47,12 +51,8 @@ OVERFLOWS = ('smul', 'umul', 'sadd', 'uadd', 'ssub', 'usub')
 
 
 def has(name: str, bits: int) -> bool:
-    """Whether LLVM, or MIR, has an operator of this width."""
-    if name == 'bswap':
-        return bits in (16, 32, 64)
-    if name == 'bitreverse':
-        return bits in (1, 2, 8, 16, 32, 64)
-    return name not in OVERFLOWS or bits not in (1, 63)
+    """Whether LLVM has an operator of this width."""
+    return name != 'bswap' or bits % 16 == 0
 
 
 def calls(name: str, bits: int, at: str) -> list[str]:
@@ -100,5 +100,24 @@ def wanted(bits: int, a: int, b: int) -> list[int]:
     return found + [0]
 
 
+# Quotients, rests and shifts of single bits, by what comes of a 1: a divisor of 0 traps, as it does in the processor.
+SINGLE = {'udiv': {1: 1}, 'sdiv': {1: 1}, 'urem': {1: 0}, 'srem': {1: 0},
+          **dict.fromkeys(('shl', 'lshr', 'ashr'), {0: 1, 1: 1})}
+
+
+def text_of_single(name: str) -> str:
+    """A function that answers what an operator makes of the lowest bits of its inputs."""
+    return (f'define i64 @f(i64 %a, i64 %b) {{\n%x = trunc i64 %a to i1\n%y = trunc i64 %b to i1\n%z = {name} i1 %x, %y\n'
+            '%w = zext i1 %z to i64\nret i64 %w\n}\n')
+
+
+def wanted_of_single(made: dict[int, int], a: int, b: int) -> list:
+    """What comes of one bit by another: of a 1 as the table has it, and of a 0 a 0."""
+    return [a & made[b]] if b in made else ['trap']
+
+
 RUNS = {f'operators on {bits} bits': (text_of(bits), [([a, b], wanted(bits, a, b)) for a, b in INPUTS])
         for bits in WIDTHS}
+RUNS.update({f'{name} on a single bit': (text_of_single(name), [([a, b], wanted_of_single(made, a, b))
+                                                               for a in (0, 1) for b in (0, 1)])
+             for name, made in SINGLE.items()})

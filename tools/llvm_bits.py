@@ -24,15 +24,13 @@ def exchanged(maker, name: str, value: Operand, places: int) -> str:
 
 
 def swapped(maker, one: Instruction, kind: str) -> None:
-    """The bytes, or the bits, from the other end."""
+    """The bytes, or the bits, from the other end: of the next power of two bits, of which the highest are wanted."""
     bits, name = maker.bits(one), maker.result(one)
     groups = [places for places in MASKS if (8 if kind == 'bswap' else 1) <= places < bits]
-    if bits != (2 * groups[-1] if groups else 1):
-        raise maker.refusal(one, f'bits of which there are not 2, 4, 8, 16, 32 or 64 ({one.type})')
-    value = plain_bits(maker, one, 1, bits)
+    value, spare = plain_bits(maker, one, 1, bits), 2 * groups[-1] - bits if groups else 0
     for places in groups:
         value = exchanged(maker, name, value, places)
-    maker.bring(name, value, bits)
+    maker.bring(name, maker.body.made(name, 'shr', value, spare) if spare else value, bits)
 
 
 def ones(maker, name: str, value: Operand) -> str:

@@ -170,14 +170,21 @@ def saturated(maker, one: Instruction, kind: str) -> None:
         maker.body.emit(If(Binary('<=', first, second), past))
         maker.body.narrow(name, Binary('-', left, right), bits, False)
         maker.body.mark(past)
-    elif kind == 'uadd' and 1 < bits < 63:
+    elif bits == 1:
+        # the sum of two ones, and the difference of 0 and 1, stay
+        maker.body.assign(name, Binary('or' if operator == '+' else '>', left, right))
+    elif kind == 'uadd' and bits == 63:
+        # what has a bit too many is below 0 here, and then all bits are set
+        whole = maker.body.made(name, '+', maker.unsigned(one, 1, bits), maker.unsigned(one, 2, bits))
+        maker.body.narrow(name, Binary('or', whole, maker.body.made(name, 'shra', whole, 63)), bits, False)
+    elif kind == 'uadd' and bits < 63:
         whole = maker.body.made(name, '+', maker.unsigned(one, 1, bits), maker.unsigned(one, 2, bits))
         maker.body.narrow(name, Plain(maker.body.made(name, 'min', whole, 2 ** bits - 1)), bits, False)
-    elif kind[0] == 's' and 1 < bits < 64:
+    elif kind[0] == 's' and bits < 64:
         whole = maker.body.made(name, operator, left, right)
         low, high = bounds(bits)
         maker.body.assign(name, Binary('min', maker.body.made(name, 'max', whole, low), high))
-    elif bits == 64:
+    else:
         whole, has_more = maker.body.made(name, operator, left, right), maker.body.names.fresh(name)
         overflow_of_64(maker, one, kind, whole, has_more)
         bound = -1 if kind == 'uadd' else maker.body.made(name, 'xor', maker.body.made(name, 'shra', whole, 63), LEAST)
@@ -185,21 +192,21 @@ def saturated(maker, one: Instruction, kind: str) -> None:
         maker.body.emit(If(Unary('!', has_more), past))
         maker.body.assign(name, Plain(bound))
         maker.body.mark(past)
-    else:
-        raise maker.refusal(one, f'sums of a single bit or of 63 (@{one.operands[0].name})')
 
 
 def with_overflow(maker, one: Instruction, kind: str) -> None:
     """A sum, a difference or a product, and whether it has too many bits."""
     bits = maker.bits(one, one.types[0])
-    if bits == 1:
-        raise maker.refusal(one, f'sums of a single bit (@{one.operands[0].name})')
     if kind.endswith('mul') and bits > 32:
         llvm_bits.product(maker, one, kind, bits)
         return
     left, right = maker.operand(one, 1, bits), maker.operand(one, 2, bits)
     name, has_more = maker.body.names.fresh(one.name), maker.body.names.fresh(f'{one.name}_more')
-    if bits == 64:
+    if bits == 1:
+        maker.body.assign(name, Binary('and' if kind.endswith('mul') else 'xor', left, right))
+        has_it = Plain(0) if kind == 'umul' else Binary('<' if kind.endswith('sub') else 'and', left, right)
+        maker.body.assign(has_more, has_it)
+    elif bits == 64:
         maker.body.assign(name, Binary(PAIRS[kind], left, right))
         overflow_of_64(maker, one, kind, name, has_more)
     else:

@@ -12,6 +12,11 @@ from mir_text import Value as Right
 # The widths of which the processor has divisions; one of another width is made by that of the next greater one.
 LEGAL = (8, 16, 32, 64)
 
+# What an operator on single bits is; a shift is its first operand.
+OF_BITS = {**dict.fromkeys(('add', 'sub', 'xor'), 'xor'), **dict.fromkeys(('and', 'mul'), 'and'), 'or': 'or',
+           **dict.fromkeys(('udiv', 'sdiv'), '/'), **dict.fromkeys(('urem', 'srem'), 'mod')}
+
+
 class Names(NamedTuple):
     """What a unit may name beside its own: the units of functions, and what stands for global variables."""
 
@@ -151,12 +156,13 @@ class Maker:
             self.body.narrow(self.result(one), value, bits, self.values.fits(one, bits))
 
     def binary_of_bits(self, one: Instruction) -> None:
-        """An operator on single bits, which are 0 or 1."""
-        operator = {'add': 'xor', 'sub': 'xor', 'xor': 'xor', 'and': 'and', 'mul': 'and', 'or': 'or'}.get(one.kind)
-        if operator is None:
-            raise self.refusal(one, f'a division or shift of a single bit ({one.kind})')
+        """An operator on single bits, which are 0 or 1. A division by 0 traps; a shift by a place is undefined, and
+        unoptimised code leaves the bit as it is."""
+        operator = OF_BITS.get(one.kind)
         left, right = self.operand(one, 0, 1), self.operand(one, 1, 1)
-        if operator == 'xor' and 1 in (left, right):
+        if operator is None:
+            self.body.assign(self.result(one), Plain(left))
+        elif operator == 'xor' and 1 in (left, right):
             self.body.assign(self.result(one), Unary('!', left if right == 1 else right))
         else:
             self.body.assign(self.result(one), Binary(operator, left, right))
