@@ -10,7 +10,7 @@ from tables_text import read_all
 
 # The parts of the script, in the order in which they stand on the page: those that show nothing, and the others.
 MODEL = ('layers.js', 'tables.js', 'beside.js', 'boxes.js', 'graphs.js', 'passes.js', 'columns.js', 'paths.js',
-         'constants.js', 'runs.js', 'verdicts.js', 'definitions.js')
+         'bits.js', 'constants.js', 'runs.js', 'verdicts.js', 'definitions.js')
 SCRIPTS = (*MODEL, 'pictures.js', 'scroll.js', 'loading.js', 'show.js', 'grid.js', 'quizzing.js', 'running.js',
            'contents.js', 'reader.js')
 

@@ -139,7 +139,8 @@ function afterColumn(pass) {
     const becomes = pass.became[n] === null ? 'It is dropped.' : pass.change[n] === 'changed'
       ? `It becomes ${code(pass.after.nodes[pass.became[n]][3])}.` : 'The node itself stays as it is.';
     const moved = pass.became[n] !== null && pass.became[n] !== n ? ` Its number is now ${pass.became[n]}.` : '';
-    return { html: (puts.length ? `Before it stands ${puts.join(' and ')}, new. ` : '') + becomes + moved };
+    const reason = pass.facts.wanted ? whyNarrowed(pass, n) : '';
+    return { html: (puts.length ? `Before it stands ${puts.join(' and ')}, new. ` : '') + becomes + reason + moved };
   };
   return lazily({ id: 'after', label: 'rewritten', values: told, marks: true, why, hue: HUES.after }, 'say', () => did(pass));
 }

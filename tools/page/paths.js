@@ -29,36 +29,6 @@ function everyPathTo(out, into, n, yes, judge, words) {
     : `Every path to ${N(n)} ${words.has}.`, edges, good: [...good] };
 }
 
-// Why so many bits of the variable of this number are wanted before a node: along which nodes they come to one that needs
-// some. Of what an assignment reads some are wanted where some of its variable are, behind it.
-function whyWanted(pass, n, v) {
-  const { facts: { wanted = [] }, before: { nodes, vars } } = pass, { out } = edgesOf(pass.before);
-  const name = code(vars[v]), bits = wanted[n][v];
-  if (!bits) return { html: `Before ${N(n)} no bit of ${name} can matter.` };
-  const states = [[n, v]], from = [null], seen = new Set([`${n} ${v}`]);
-  const numbers = new Map(vars.map((one, at) => [one, at]));
-  const goOn = (at, m, x) => {
-    if (!wanted[m]?.[x] || seen.has(`${m} ${x}`)) return;
-    seen.add(`${m} ${x}`);
-    states.push([m, x]);
-    from.push(at);
-  };
-  const begun = `Before ${N(n)} the ${bits} lowest bits of ${name} can matter`;
-  for (let at = 0; at < states.length; at++) {
-    const [m, x] = states[at], one = parsed(nodes[m]), reads = one.reads.includes(vars[x]);
-    if (reads && (one.kind !== 'assign' || divides(one) && one.args[1] === vars[x])) {
-      const path = [];
-      for (let back = at; back !== null; back = from[back]) path.unshift(states[back][0]);
-      const end = x === v ? 'it' : code(vars[x]);
-      return { html: path.length > 1 ? `${begun}: along ${arrows(path)} they come to ${N(m)}, which needs ${end}.`
-        : `${begun}: ${N(m)} itself needs ${end}.`, path: path.length > 1 ? path : null, good: [m] };
-    }
-    if (one.kind === 'assign' && reads) goOn(at, nodes[m][1][0], numbers.get(one.into));
-    if (!one.sets.includes(vars[x])) for (const s of out[m]) goOn(at, s, x);
-  }
-  return { html: `${begun}.` };
-}
-
 // The rows of an expression, with the answers that need paths.
 function problem(pass, item) {
   const { out, into } = edgesOf(pass.before), { nodes } = pass.before;
@@ -205,7 +175,8 @@ function livesOn(stage, inserted, replaced) {
   return allEdges(stage).filter(([, s]) => before[s]);
 }
 
-// The bits of a choice that no path shows: where there is one, the rows and the rules differ. Large graphs are not tried.
+// The bits of a choice that no path shows, and the numbers of wanted bits that the rules do not give: where there is one,
+// the rows and the rules differ. Large graphs are not tried.
 function disagreeing(pass, number) {
   const columns = columnsOf(pass, number);
   if (!columns.checked) {
@@ -226,7 +197,11 @@ function disagreeing(pass, number) {
           if ((item.edges?.[`${which}held`]?.[at] === '1') !== own.has(edge.join('>')))
             found.push([`${which}held`, edge[0]]); });
     }
-    columns.checked = { bits, found };
+    if (pass.facts.wanted && pass.before.nodes.length <= 160) leastWanted(pass).forEach((row, n) => row.forEach((least, v) => {
+      bits++;
+      if (pass.facts.wanted[n][v] !== least) found.push([pass.before.vars[v], n]);
+    }));
+    columns.checked = { bits, found, what: pass.facts.wanted ? 'number' : 'bit' };
   }
   return columns.checked;
 }

@@ -262,9 +262,9 @@ function showWhy(pass) {
   const verdict = one.bits
     ? `<b class="${one.bits[state.node] ? 'yesword' : 'noword'}" style="--h:${one.hue}">${one.bits[state.node] ? 'yes' : 'no'}</b>`
     : '';
-  const { bits, found } = disagreeing(pass, state.item);
+  const { bits, found, what } = disagreeing(pass, state.item);
   const agrees = !bits ? '' : found.length
-    ? `<p class="bad">✗ ${many(found.length, 'bit')} of the rows ${found.length === 1 ? 'differs' : 'differ'} from what the paths show: ${found.slice(0, 6).map(([id, n]) => `${esc(id)} at ${N(n)}`).join(', ')}.</p>`
-    : `<span class="agrees quiet" title="for each bit of this table the page has looked for a path that shows it">✓ ${bits} bits agree with the rules</span>`;
+    ? `<p class="bad">✗ ${many(found.length, what)} of the rows ${found.length === 1 ? 'differs' : 'differ'} from what the paths show: ${found.slice(0, 6).map(([id, n]) => `${esc(id)} at ${N(n)}`).join(', ')}.</p>`
+    : `<span class="agrees quiet" title="${what === 'bit' ? 'for each bit of this table the page has looked for a path that shows it' : 'the page has found each number of this table by itself'}">✓ ${bits} ${what}s agree with the rules</span>`;
   $('#why').innerHTML = `${agrees}<h2>Node ${state.node} ${code(node[0] === 'start' ? 'Start' : node[3])} <span class="quiet">${esc(one.label)}?</span> ${verdict}</h2><p>${witness?.html || ''}</p>${state.quiz ? '' : `<p class="story quiet">The node: ${story(pass, state.node)}.</p>`}`;
 }
