@@ -114,7 +114,7 @@ class Bril(unittest.TestCase):
     def test_operators(self):
         """Each operator of MIR does in Bril what it does in MIR."""
         made = bril_text.program_json(self.bril_of(bril_cases.OPERATORS))
-        for inputs in ((a, b) for a in NUMBERS for b in NUMBERS):
+        for inputs in fewer([(a, b) for a in NUMBERS for b in NUMBERS]):
             with self.subTest(inputs):
                 self.assertEqual(self.report_of_made(made, inputs),
                                  self.report_of_mir(bril_cases.OPERATORS, inputs))

@@ -11,6 +11,7 @@ import unittest
 import unittest.mock
 from pathlib import Path
 
+import mir_text
 from tool_calls import BAD, EXAMPLES, GIVEN, TOOLS, TOP, fewer, ran, tool
 
 
@@ -47,6 +48,24 @@ class CommandLine(unittest.TestCase):
         for command in self.commands():
             self.assertRegex(told, rf'(?m)^  {command}\b')
             self.assertRegex(page, rf'(?m)^\.BI? "?{command}\b')
+
+    def test_long_programs_are_written(self):
+        """What a pass itself makes is never refused: neither a unit of as many instructions as one may have, nor a text
+        that gets longer than one that is read."""
+        begins, ends = 'main: begin\n', 'return 0\nend\n'
+        longest = begins + 'print 1\n' * (mir_text.INSTRUCTIONS - 1) + ends
+        for words in (['passes'], ['passes', 'clean'], ['optimise'], ['move'], ['thorough']):
+            with self.subTest(words=words):
+                called = ran([GIVEN.mir, *words], longest)
+                self.assertEqual((called.returncode, called.stdout.decode()), (0, longest))
+        unit = begins + 'x<-y+z\n' * 8_000 + ends
+        count = mir_text.BYTES // len(unit)
+        text = ''.join(unit.replace('main', f'unit{n}', 1) for n in range(count))
+        for words in (['passes'], ['passes', 'clean']):
+            with self.subTest(words=words):
+                called = ran([GIVEN.mir, *words], text)
+                self.assertEqual(called.returncode, 0, called.stderr)
+                self.assertGreater(len(called.stdout), mir_text.BYTES)
 
     def test_each_pass_is_told(self):
         """Help, manual page and completion have the passes of `passes` that docs/LANGUAGE.md tells of, and the program
@@ -166,6 +185,8 @@ class CommandLine(unittest.TestCase):
         for name, program in (('mir', GIVEN.mir), ('mir_tables', GIVEN.tables or GIVEN.mir)):
             shutil.copy(program, built / name)
         (built / 'proof.txt').write_text('mir: as the test has it\n')
+        (built / 'play.html').write_text('a page')
+        os.utime(built / 'mir', (0, 0))
         said = ran([tool('install'), '--prefix', str(self.folder / 'p'), '--built', str(built)])
         self.assertEqual((said.returncode, said.stderr), (0, b''))
         version = (TOP / 'VERSION').read_text().strip()
@@ -174,7 +195,8 @@ class CommandLine(unittest.TestCase):
         self.assertEqual(ran([str(self.folder / 'p/bin/mir'), 'optimise', str(TOP / 'examples/sums.mir')]).stdout.decode(),
                          self.SUMS)
         for name in ('share/man/man1/mir_tables.1', 'include/mir.h', 'share/bash-completion/completions/mir',
-                     'share/vim/vimfiles/syntax/mir.vim', 'lib/mir/tools/show', 'lib/mir/examples/sums.mir'):
+                     'share/vim/vimfiles/syntax/mir.vim', 'lib/mir/tools/show', 'lib/mir/examples/sums.mir',
+                     'lib/mir/play.html'):
             self.assertTrue((self.folder / 'p' / name).exists(), name)
 
 

@@ -40,6 +40,14 @@ class Fault(Exception):
     """Why something could not be made, in a line or more."""
 
 
+def newest_source() -> float:
+    """When a source was last changed."""
+    files = [TOP / 'crates.txt']
+    for part in ('src', 'specs', 'proofs'):
+        files += (path for path in CRATES.glob(f'*/{part}/**/*') if path.is_file())
+    return max(path.stat().st_mtime for path in files)
+
+
 def kit() -> Path:
     """The folder of the kit."""
     rt = shutil.which('rt')

@@ -108,8 +108,9 @@ def told(name: str, *words: str, text: str = '') -> subprocess.CompletedProcess:
     return subprocess.CompletedProcess([name, *words], status or 0, *written)
 
 
+@functools.lru_cache(maxsize=None)
 def stages_of(text: str) -> str:
-    """What `mir stages` writes for a text."""
+    """What `mir stages` writes for a text, for which it is asked once."""
     said = ran([GIVEN.mir, 'stages'], text)
     assert said.returncode == 0, said.stderr
     return said.stdout.decode('latin-1')

@@ -40,16 +40,16 @@ class Library {
     return at;
   }
 
-  // Calls an export that takes words and a text.
-  call(name, words, bytes) {
+  // Calls an export that takes words and a text. Of output and line there is what fits.
+  call(name, words, bytes, lineRoom = LINE_ROOM) {
     const { exports } = this, said = new TextEncoder().encode(words.map(word => `${word}\0`).join(''));
     const lent = [said, bytes].map(one => [this.put(one), one.length]);
-    const out = this.take(this.room), line = this.take(LINE_ROOM), lengths = this.take(16);
+    const out = this.take(this.room), line = this.take(lineRoom), lengths = this.take(16);
     const status = exports[name](...lent.flatMap(([at, length]) => [at, BigInt(length)]), out, BigInt(this.room),
-      lengths, line, BigInt(LINE_ROOM), lengths + 8n);
+      lengths, line, BigInt(lineRoom), lengths + 8n);
     const [length, told] = [...new BigUint64Array(this.part(lengths, 16).slice().buffer)].map(Number);
-    const fits = Math.min(length, this.room);
-    const answer = { status, length, out: this.part(out, fits).slice(), err: this.part(line, told).slice() };
+    const [fits, toldHere] = [Math.min(length, this.room), Math.min(told, lineRoom)];
+    const answer = { status, length, told, out: this.part(out, fits).slice(), err: this.part(line, toldHere).slice() };
     for (const at of [...lent.map(([at]) => at), out, line, lengths]) exports.give(at);
     return answer;
   }
