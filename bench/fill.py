@@ -77,6 +77,11 @@ class Meter:
         cases = self.cases(name) if plain == name else {case.size: case for case in self.workloads[plain].beside()}
         return run.instructions(self.command[0], cases[size], self.folder, without_bytes) / 1e6
 
+    def a_step(self, name: str) -> float:
+        """How many instructions a step of a run takes: those of the last case less those of the first, by their steps."""
+        first, last = (min(self.cases(name)), max(self.cases(name)))
+        return (self.millions(name, last) - self.millions(name, first)) * 1e6 / (last - first)
+
     def against_half(self, name: str, size: int) -> str:
         """How many times as many a case takes as at half its size, where that is a case too."""
         return f'{self.millions(name, size) / self.millions(name, size // 2):.2f}' if size // 2 in self.cases(name) else ''
@@ -152,26 +157,32 @@ def filled(text: str, meter: Meter) -> str:
 
 def faulted(text: str, meter: Meter) -> str:
     """The page with the sentence on minor page faults under `optimise`, each at the greatest size."""
-    begin = text.index('Minor page faults under')
-    end = text.index('.', begin)
-
     def of(found: re.Match) -> str:
         name = found[1] if found[1] in meter.workloads else f'{found[1]}-optimise'
         return f'`{found[1]}`{found[2]}{meter.taken(name, max(meter.cases(name))).faults:,}'
 
-    return text[:begin] + re.sub(r'`([\w-]+)`(\s)\d[\d,]*\d', of, text[begin:end]) + text[end:]
+    return in_sentence(text, 'Minor page faults under', r'`([\w-]+)`(\s)\d[\d,]*\d', of)
 
 
 def told(text: str, meter: Meter) -> str:
-    """The page with the sentence on the instructions of the workloads that stand in no table of them."""
-    begin = text.index('Instructions of the other workloads under')
-    end = text.index('`trial 0 256`', begin)
-
+    """The page with the sentences on the instructions of the workloads that stand in no table of them, and on those of a
+    step."""
     def of(found: re.Match) -> str:
         size = max(meter.cases(found[1]))
-        return f'`{found[1]}` {meter.millions(found[1], size):,.1f},{found[2]}{meter.against_half(found[1], size)}'
+        half = f',{found[3]}{meter.against_half(found[1], size)}' if found[3] else ''
+        return f'`{found[1]}`{found[2]}{meter.millions(found[1], size):,.1f}{half}'
 
-    return text[:begin] + re.sub(r'`([\w-]+)` [\d,.]+\d,(\s)[\d.]+\d', of, text[begin:end]) + text[end:]
+    numbers = r'`([\w-]+)`(\s)[\d,.]*\d(?:,(\s)[\d.]+\d)?'
+    text = in_sentence(text, 'Instructions of the other workloads', numbers, of)
+    return in_sentence(text, 'Instructions a step:', r'`([\w-]+)`(\s)[\d.]+\d',
+                       lambda found: f'`{found[1]}`{found[2]}{meter.a_step(found[1]):.1f}')
+
+
+def in_sentence(text: str, head: str, pattern: str, of: Callable[[re.Match], str]) -> str:
+    """The page in which the paragraph from these words on has new numbers."""
+    begin = text.index(head)
+    end = text.index('\n\n', begin)
+    return text[:begin] + re.sub(pattern, of, text[begin:end]) + text[end:]
 
 
 def fill(given: argparse.Namespace, counts: bool) -> str:

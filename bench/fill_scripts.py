@@ -9,7 +9,9 @@ FOLDER = Path(__file__).resolve().parent
 # The words behind which each row of drawn programs is made, by how the row begins.
 DRAWN = {'`divisions.py`': ['divisions.py'], '`wanted.py`': ['wanted.py'],
          '`wanted.py`, `demanded`': ['wanted.py', '--words', 'passes', 'demanded'],
-         '`wanted.py`, `bounds`': ['wanted.py', '--words', 'passes', 'bounds'], '`chains.py`': ['chains.py']}
+         '`wanted.py`, `bounds`': ['wanted.py', '--words', 'passes', 'bounds'],
+         '`wanted.py`, `comparisons`': ['wanted.py', '--tests', '--words', 'passes', 'comparisons'],
+         '`chains.py`': ['chains.py']}
 MOST_ROUNDS = 16
 
 
@@ -39,7 +41,7 @@ def run_beside(page: str, mir: str) -> str:
 def rounds(page: str, mir: str, csmith: int) -> str:
     """The page with the table of how many rounds of sinking are made."""
     for line in said(mir, 'rounds.py', '--csmith', str(csmith)).rstrip().split('\n'):
-        counts = dict(re.findall(r'(\d+): ([\d,]+)', line.split(':', 1)[1]))
+        counts = dict(re.findall(r'(\d+): ([\d,]*\d)', line.split(':', 1)[1]))
         kind = 'C programs of csmith' if 'csmith' in line else 'drawn programs'
         cells = [counts.get(str(each), '') for each in range(1, MOST_ROUNDS + 1)]
         row = re.compile(rf'^\| [\d,]+ {kind} \|.*$', re.M)
@@ -48,9 +50,16 @@ def rounds(page: str, mir: str, csmith: int) -> str:
     return page
 
 
+def is_told(row: str) -> bool:
+    """Whether turns take half as much again as one `optimise`, or more than one changes something."""
+    cells = [cell.strip() for cell in row.split('|')]
+    return cells[3] != '1' or float(cells[6]) >= 1.5
+
+
 def turns(page: str, mir: str) -> str:
-    """The page with the table of what turns take beside one `optimise`."""
-    head, *rows = said(mir, 'turns.py').rstrip().split('\n')
+    """The page with the table of what turns take beside one `optimise`, of the workloads of which this tells something."""
+    head, *rows = said(mir, 'turns.py', '--seconds', '5').rstrip().split('\n')
+    rows = list(filter(is_told, rows))
     begin = page.index(head)
     end = page.index('\n\n', begin)
     return page[:begin] + '\n'.join([head, '|---' * head.count(' | ') + '|---|', *rows]) + page[end:]

@@ -9,7 +9,7 @@ With no shape named, all are drawn, and with no words all commands are called. W
 passes as there may be: of all in turn, of one that is named behind them, or drawn by a number that stands there; with
 `--chains` each of these is called, and three draws. With `--of 4` each text has a quarter of the size that its shape may
 have. A call is stopped after N processor seconds (60) or where it takes more than so much
-memory (8,000 MB), and its line says so. Behind the lines are a row for each shape, as README.md beside this file has it,
+memory (8,000 MB), and its line says so. Behind the lines are a row for each command, as README.md beside this file has it,
 the slowest call and the largest, and those that took more than 10 seconds or 1,000 MB and wrote no more than 64 MB: what
 a definition itself makes long is told by its bytes.
 
@@ -227,20 +227,21 @@ def options() -> argparse.Namespace:
     return asked
 
 
-def row_of(shape: str, taken: list[Taken]) -> str:
-    """The row of a shape: of the calls that ended the slowest and the largest, and those that did not."""
+def row_of(words: str, taken: list[Taken]) -> str:
+    """The row of a command: of the calls that ended the slowest and the largest, and those that did not."""
     ended = [one for one in taken if one.end in ('', 'still runs')] or taken
     slowest, largest = max(ended, key=lambda one: one.seconds), max(ended, key=lambda one: one.bytes)
-    others = ', '.join(f'`{one.words}` {one.end}' for one in taken if one.end not in ('', 'still runs'))
-    return (f'| `{shape}` | {taken[0].read / 1000:,.0f} | `{slowest.words}` {slowest.seconds:,.2f} | '
-            f'`{largest.words}` {largest.bytes / 1e6:,.0f} |{f" {others} " if others else " "}|')
+    others = ', '.join(f'`{one.shape}`{f" {one.end}" * (one.end != "stopped")}'
+                       for one in taken if one.end not in ('', 'still runs'))
+    return (f'| `{words}` | `{slowest.shape}` {slowest.seconds:,.1f} | `{largest.shape}` {largest.bytes / 1e6:,.0f} |'
+            f'{f" {others} " if others else " "}|')
 
 
 def tell(taken: list[Taken]) -> None:
-    """Prints a row for each shape, the slowest call, the largest one, and those that took too much for what they wrote."""
-    print('\n| Shape | kB | Slowest, s | Largest, MB | Not ended |\n|---|---|---|---|---|')
-    for shape in dict.fromkeys(one.shape for one in taken):
-        print(row_of(shape, [one for one in taken if one.shape == shape]))
+    """Prints a row for each command, the slowest call, the largest one, and those that took too much for what they wrote."""
+    print('\n| Command | Slowest, s | Largest, MB | Stopped |\n|---|---|---|---|')
+    for words in dict.fromkeys(one.words for one in taken):
+        print(row_of(words, [one for one in taken if one.words == words]))
     print(f'\nslowest: {max(taken, key=lambda one: one.seconds).line()}')
     print(f'largest: {max(taken, key=lambda one: one.bytes).line()}')
     for one in taken:

@@ -18,10 +18,11 @@ what each command of `mir` makes of it, has to print the same numbers and end in
 1,000,000 steps are compared as native programs (`tools/compile`). The counts are of same, refused by reason, and
 different ones, each of which is shown; the status is 1 where there is one.
 
-Beside it the operators of whole runs are counted by `run`: of the text, of what commands make of it, and turns of fewer
+Beside it the operators of whole runs are counted by `run`: of the text, of what commands make of it, and turns of other
 passes than those of `thorough`, and of what LLVM leaves of the same IR, which is brought in like the source, so that the
-unit is the same. `--table` shows the programs in which LLVM leaves least beside `thorough`. Of each set it is told which programs have a run in which `thorough`
-evaluates more operators than `optimise`. The time is that of native programs, by `bench/native_times.py`.
+unit is the same. `--table` shows the programs in which LLVM leaves least beside `thorough`. Of each set it is told which
+programs have a run in which `thorough` evaluates more operators than `optimise`. The time is that of native programs, by
+`bench/native_times.py`.
 
 With `--fill` the tables are put into README.md beside this file, behind the line `<!-- bench/real.py -->`; those of a
 set that is not named stay. Where a set takes more than its part of `--minutes`, what is done by then is told. With
@@ -61,9 +62,10 @@ from tool_calls import module_of  # noqa: E402
 
 TIMED = ('optimise', 'thorough')
 COMMANDS = ('optimise', 'thorough', 'move', 'divisions', 'tails', 'join')
-# Turns of fewer passes than `thorough` makes, until one changes nothing; and the most that are made.
+# Turns of fewer passes than `thorough` makes, and of one more, until one changes nothing; and the most that are made.
 TURNS = {'turns': 'tails join optimise called', 'wanted': 'tails join optimise wanted called',
-         'demanded': 'tails join optimise demanded called'}
+         'demanded': 'tails join optimise demanded called',
+         'comparisons': 'tails join optimise comparisons demanded bounds called'}
 MOST_TURNS = 16
 # Native programs end by themselves after a part of a second, which a busy machine gives them late.
 STEPS, SECONDS = 1_000_000, 600
@@ -180,7 +182,7 @@ class Bench:
         return Report(lines[:-1], ended(lines[-1]))
 
     def ways(self, text: str, commands: Optional[tuple[str, ...]] = None) -> Iterable[tuple[str, str]]:
-        """The text, and what each command and turns of fewer passes make of it, or these commands alone."""
+        """The text, and what each command and turns of other passes make of it, or these commands alone."""
         yield 'source', text
         for command in self.commands if commands is None else commands:
             said = ran([self.mir, command], text.encode())

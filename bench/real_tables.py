@@ -7,12 +7,12 @@ import native_times
 MARK = '<!-- bench/real.py -->'
 FEW = 20  # the mean of fewer times than these tells little
 WAYS = ('source', 'optimise', 'thorough', 'alike', 'all')
-TURNS = ('optimise', 'turns', 'wanted', 'demanded', 'thorough', 'alike', 'all')
+TURNS = ('source', 'optimise', 'turns', 'wanted', 'demanded', 'thorough', 'comparisons', 'alike', 'all')
 HEADS = {
     'ends': '| Set | Programs | Same | Different | Refused | Not compared | As native programs |',
     'reasons': '| Set | Refused or not compared, since | Programs |',
-    'operators': '| Set | Programs | Source | `optimise` | `thorough` | `alike` | `all` |',
-    'turns': '| Set | Programs | `optimise` | `turns` | `wanted` | `demanded` | `thorough` | `alike` | `all` |',
+    'operators': '| Set | Programs | Source | `optimise` | `turns` | `wanted` | `demanded` | `thorough` | `comparisons` '
+                 '| `alike` | `all` |',
     'arithmetic': '| Set | Arithmetic | Programs | `optimise` | `thorough` | `alike` | `all` |',
     'beside': '| Set | LLVM | `optimise`: less | as much | more | `thorough`: less | as much | more |',
     'each': '| Program | Source | `optimise` | `thorough` | `alike` | `all` |',
@@ -44,8 +44,7 @@ def rows_of(name: str, outcomes: list) -> dict[str, list[list]]:
     found['reasons'] = [[state.removeprefix('refused: '), count] for count, state in reasons]
     found['beside'] = [[f'`{kind}`', *signs(whole, kind, 'optimise'), *signs(whole, kind, 'thorough')]
                        for kind in ('alike', 'all')] if whole else []
-    found['operators'] = [[len(whole), *sums(whole, WAYS)]] if whole else []
-    found['turns'] = [[len(whole), *sums(whole, TURNS)]] if whole and 'turns' in whole[0].evals else []
+    found['operators'] = [[len(whole), *sums(whole, TURNS)]] if whole else []
     called = [each for each in whole if each.is_called]
     placed = [each for each in whole if not each.is_called]
     found['arithmetic'] = [[kind, len(some), *sums(some, WAYS[1:])]

@@ -1,12 +1,13 @@
 #!/usr/bin/env python3
-"""Counts the rounds of sinking that `mir` makes of drawn programs and of C programs.
+"""Counts the rounds of sinking that `mir` makes of drawn programs, of C programs and of workloads.
 
-    bench/rounds.py [--mir PATH] [--programs N] [--csmith N] [--seed N] [FILE ..]
+    bench/rounds.py [--mir PATH] [--programs N] [--csmith N] [--seed N] [FILE ..] [--workloads NAME ..]
 
 The drawn programs are those of `divisions.py`; the C programs are those that csmith draws, as `real.py` has it, and the
 files that are named, brought in by `tools/from_c`. Of each program the greatest number of rounds that one of its units
 makes is told by `stages`: one round where the first changes nothing, and sixteen at the most. A line for each kind says
-how many programs came to each number. It wants Python 3.9 and its standard library, and for C programs csmith and
+how many programs came to each number. Of each workload of `run.py` that is named a line has the number at each size. It
+wants Python 3.9 and its standard library, and for C programs csmith and
 clang.
 """
 
@@ -21,6 +22,7 @@ from typing import Iterable
 
 import drawn
 import real
+import run
 from divisions import Draw
 
 TOP = Path(__file__).resolve().parent.parent
@@ -59,6 +61,12 @@ def tell(kind: str, mir: str, texts: Iterable[str]) -> None:
     print(f'{sum(counts.values()):,} {kind} by their rounds: {told}')
 
 
+def tell_workload(mir: str, name: str) -> None:
+    """Prints how many rounds the texts of a workload make."""
+    cases = next(each for each in run.WORKLOADS if each.name == name).cases()
+    print(f'{name}:', ', '.join(f'{case.size:,}: {rounds_of(mir, case.text)}' for case in cases), flush=True)
+
+
 def main() -> None:
     """Counts of each kind."""
     words = argparse.ArgumentParser(description=__doc__.split('\n')[0])
@@ -66,8 +74,11 @@ def main() -> None:
     words.add_argument('--programs', type=int, default=2_500, metavar='N', help='how many programs are drawn')
     words.add_argument('--csmith', type=int, default=0, metavar='N', help='how many programs csmith draws')
     words.add_argument('--seed', type=int, default=1, metavar='N', help='the number of the first of each')
+    words.add_argument('--workloads', nargs='*', default=[], metavar='NAME', help='workloads of run.py')
     words.add_argument('files', nargs='*', type=Path, metavar='FILE', help='C files and folders of them')
     given = words.parse_args()
+    for name in given.workloads:
+        tell_workload(given.mir, name)
     if given.programs:
         tell('drawn programs', given.mir,
              (Draw(number).program() for number in range(given.seed, given.seed + given.programs)))

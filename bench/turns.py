@@ -2,8 +2,9 @@
 """Counts by callgrind how many times the instructions of `optimise` `thorough` takes, on each workload of bench/run.py that
 is a program to be rewritten, beside the turns that change something.
 
-    bench/turns.py [--mir PATH] [--greatest] [WORKLOAD ..]
+    bench/turns.py [--mir PATH] [--greatest] [--seconds N] [WORKLOAD ..]
 
+With `--seconds` it measures processor seconds, the least of N calls, in the place of instructions.
 Each text has the least size of its workload, or with `--greatest` the greatest. A turn that changes nothing is made behind
 the last that changes something, so where one does, the passes of `optimise` are made twice. What they get in the first
 turn is what `tails` and `join` leave: where this is longer than the text, `optimise` is counted on it too. It runs on Linux
@@ -18,6 +19,7 @@ import tempfile
 from pathlib import Path
 
 import run
+from against_llvm import least_time, ran
 from measuring import ENDED, Case, Failure, adopt_orphans, instructions
 
 # Where the passes of a turn stand, and the most turns that are made.
@@ -68,11 +70,21 @@ def texts(greatest: bool) -> dict[str, tuple[int, str]]:
     return found
 
 
+def taken(mir: str, word: str, text: str, folder: Path, repeat: int) -> float:
+    """The least processor seconds of so many calls, or with none the millions of instructions; 0 where there is no text."""
+    if not text:
+        return 0
+    if repeat:
+        return least_time(lambda: ran([mir, word], text.encode()), repeat)
+    return instructions(mir, Case(len(text), [word], text, ENDED, None), folder) / 1e6
+
+
 def main() -> int:
     """Counts the workloads that were asked for."""
     asked = argparse.ArgumentParser(description='Counts what turns take beside one optimise.')
     asked.add_argument('--mir', default=str(run.PROGRAM), metavar='PATH', help='the program that is measured')
     asked.add_argument('--greatest', action='store_true', help='at the greatest size of each workload')
+    asked.add_argument('--seconds', type=int, default=0, metavar='N', help='measure the least time of N calls')
     asked.add_argument('workloads', nargs='*', metavar='WORKLOAD')
     given = asked.parse_args()
     mir, sizes = str(Path(given.mir).resolve()), texts(given.greatest)
@@ -85,11 +97,12 @@ def main() -> int:
         for name in given.workloads or sizes:
             size, text = sizes[name]
             joined = joined_of(mir, text)
-            once, often, behind = (instructions(mir, Case(size, [word], of, ENDED, None), Path(folder)) / 1e6 if of else 0
+            once, often, behind = (taken(mir, word, of, Path(folder), given.seconds)
                                    for word, of in (('optimise', text), ('thorough', text), ('optimise', joined)))
-            beside = f' {behind:,.1f} | {often / behind:.2f} |' if joined else ' | |'
-            print(f'| `{name}` | {size:,} | {turns_of(mir, text)} | {once:,.1f} | {often:,.1f} | {often / once:.2f} |'
-                  + beside, flush=True)
+            digits = 3 if given.seconds else 1
+            beside = f' {behind:,.{digits}f} | {often / behind:.2f} |' if joined else ' | |'
+            print(f'| `{name}` | {size:,} | {turns_of(mir, text)} | {once:,.{digits}f} | {often:,.{digits}f} | '
+                  f'{often / once:.2f} |{beside}', flush=True)
     return 0
 
 

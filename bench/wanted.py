@@ -1,13 +1,14 @@
 #!/usr/bin/env python3
 """Runs drawn programs full of shifts, masks and narrow types beside what `mir passes wanted` makes of them.
 
-    bench/wanted.py [--mir PATH] [--words WORD ..] [--programs N] [--runs N] [--seed N]
+    bench/wanted.py [--mir PATH] [--tests] [--words WORD ..] [--programs N] [--runs N] [--seed N]
 
 Each program is drawn by its number, rewritten by `mir` with these words (`passes wanted`), and both are run on N drawn
 inputs by `interpret.py`, in one process. What the source prints within its steps the target prints first; where the
 source ends the target ends with the same result, and where it traps the target traps, each with the same prints; and
-where both end the target evaluates no more operators. Every difference is shown. The last line counts, and the status
-is 1 where one differs. It wants Python 3.9 and its standard library.
+where both end the target evaluates no more operators. With `--tests` variables also hold comparisons, and tests ask
+whether one is 0. Every difference is shown. The last line counts, and the status is 1 where one differs. It wants
+Python 3.9 and its standard library.
 """
 
 import argparse
@@ -134,11 +135,29 @@ class Draw:
         return f'global g\nmain: begin\n{received}' + '\n'.join(lines) + f'\n{result}\nend\n' + callee
 
 
+class DrawTests(Draw):
+    """Draws such programs in which variables also hold comparisons, and tests ask whether one is 0."""
+
+    def instructions(self, label: str) -> list[str]:
+        """An instruction, or a comparison, something between now and then, and a test of the variable that holds it."""
+        if self.random.random() < 0.6:
+            return super().instructions(label)
+        held, relation = self.random.choice('xyzp'), self.random.choice(('=', '!=', '<', '<=', '>', '>='))
+        value = self.random.choice((f'! {self.operand()}', f'{self.operand()} {relation} {self.operand()}'))
+        lines = [f'{held} <- {value}']
+        if self.random.random() < 0.4:
+            lines += super().instructions(label)
+        test = self.random.choice((held, f'! {held}', f'{held} = 0', f'{held} != 0', f'0 = {held}', f'0 != {held}'))
+        then = f'trap {self.random.randrange(3)}' if self.random.random() < 0.3 else f'goto {label}'
+        return [*lines, f'if {test} {then}']
+
+
 def main() -> int:
     """Draws, rewrites and runs."""
     words = argparse.ArgumentParser(description=__doc__.split('\n')[0])
     words.add_argument('--mir', default=str(TOP / 'mir'), help='the program that is called')
     words.add_argument('--words', nargs='*', default=['passes', 'wanted'], metavar='WORD', help='with which words')
+    words.add_argument('--tests', action='store_true', help='draw tests of variables that hold comparisons too')
     words.add_argument('--programs', type=int, default=2_500, metavar='N', help='how many programs are drawn')
     words.add_argument('--runs', type=int, default=40, metavar='N', help='how many inputs each is run on')
     words.add_argument('--seed', type=int, default=0, metavar='N', help='the number of the first program')
@@ -146,7 +165,7 @@ def main() -> int:
     ends, different, fewer = {'ended': 0, 'trapped': 0, 'running': 0}, 0, 0
     evaluated = [0, 0]
     for number in range(given.seed, given.seed + given.programs):
-        draw = Draw(number)
+        draw = (DrawTests if given.tests else Draw)(number)
         text = draw.program()
         made = subprocess.run([given.mir, *given.words], input=text, capture_output=True, text=True)
         if made.returncode:
