@@ -1,5 +1,5 @@
 -- What is found for a variable is what is read in its place, and it is a variable of the graph.
-use Rattle.std.proofs.Common.{◌≡◌, ℕ, ◌<◌, inl, inr, true, length, Option, Some, None, refl, sym, subst, true≢false}
+use Rattle.std.proofs.Common.{ℕ, ◌<◌, inl, inr, length, Option, Some, None, refl, sym, subst, true≢false}
 use Rattle.mir_base.specs.declared.instructions.Operand.TheVariants.{Var, Const}
 use Rattle.mir_base.specs.declared.instructions.Rhs.{Rhs}
 use Rattle.mir_base.specs.declared.instructions.Rhs.TheVariants.{Plain, Unary, Binary}

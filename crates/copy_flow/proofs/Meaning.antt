@@ -20,7 +20,7 @@ use Rattle.flow_graph.specs.ListLaws.{cons_same}
 use Rattle.flow_graph.specs.Machines.{graph_code, node_transition}
 use Rattle.flow_graph.specs.Numbering.{renamed_operand, renamed_rhs, renamed_test}
 use Rattle.held_assign.specs.HeldValues.{AgreesThere}
-use Rattle.copy_flow.specs.Copied.{AreCopied, assigned_unless_itself, reread_node}
+use Rattle.copy_flow.specs.Copied.{AreCopied, reread_node}
 use Rattle.copy_flow.specs.Copies.{IsReadFor, is_var}
 
 -- a variable that is assigned its own value changes nothing
