@@ -8,10 +8,10 @@ use Rattle.flow_graph.specs.declared.nodes.Node.TheVariants.{Assign}
 use Rattle.flow_graph.specs.Graphs.{CanMake, GraphShape, node_vars}
 use Rattle.held_assign.specs.HeldLaws.{held_node}
 use Rattle.held_assign.specs.Holding.{IsHeldRhs}
-use Rattle.copy_flow.specs.Copies.{IsReadFor, is_copy, source_or}
+use Rattle.copy_flow.specs.Copies.{IsReadFor, is_copy, read_for}
 
 -- the variable that holds as the right side of v, or v itself where none does, is read for v
-pub found_read : (graph : GraphShape) (n v : ℕ) (rhs : Option Rhs) → IsHeldRhs is_copy graph n v rhs → IsReadFor graph v (source_or v rhs) n
+pub found_read : (graph : GraphShape) (n v : ℕ) (rhs : Option Rhs) → IsHeldRhs is_copy graph n v rhs → IsReadFor graph v (read_for v rhs) n
 found_read graph n v None none = inr (refl, λ u copy. none (Plain (Var u)) refl copy)
 found_read graph n v (Some (Plain (Var w))) is = inl is.1
 found_read graph n v (Some (Plain (Const c))) is = absurd (true≢false (sym is.0))

@@ -5,11 +5,11 @@ use Rattle.held_assign.specs.declared.held.HeldAssigns.{HeldAssigns}
 use Rattle.held_assign.specs.Rows.{IsLookup, held_at}
 use Rattle.copy_flow.specs.declared.rereading.HeldAt.{HeldAt}
 use Rattle.copy_flow.specs.Copied.{reread_node}
-use Rattle.copy_flow.specs.Copies.{source_or}
+use Rattle.copy_flow.specs.Copies.{read_for}
 
 -- the variable that is read for v at node n
 abbrev pub read_by : HeldAssigns → ℕ → ℕ → ℕ
-read_by held n v = source_or v (held_at held n v)
+read_by held n v = read_for v (held_at held n v)
 
 -- the node that is looked up has a row
 pub record IsAtNode (at : HeldAt) : Type 0 where

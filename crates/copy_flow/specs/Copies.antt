@@ -7,7 +7,8 @@ use Rattle.mir_base.specs.declared.instructions.Rhs.TheVariants.{Plain, Unary, B
 use Rattle.flow_graph.specs.Graphs.{GraphShape}
 use Rattle.held_assign.specs.Holding.{IsHeld}
 
--- `v <- rhs` is a copy where the right side is a variable alone; that it is another one than v is asked of what holds
+-- the assignment `v <- rhs` is a copy: its right side is a variable alone. That this is another one than v, `can_hold`
+-- asks
 abbrev pub is_copy : ℕ → Rhs → Bool
 is_copy v (Plain (Var x)) = true
 is_copy v (Plain (Const c)) = false
@@ -21,8 +22,8 @@ is_var w (Plain (Const c)) = false
 is_var w (Unary op a) = false
 is_var w (Binary op a b) = false
 
--- v is a copy of w at node n: `v <- w` holds before it, that is, w is another variable than v, node n is reached, and on
--- every path from Start to it there is, before n, a node `v <- w` after which, before n, no node assigns v or w
+-- v is a copy of w at node n: `v <- w` holds before it. So w is another variable than v, node n is reached, and on every
+-- path from Start to it there is, before n, a node `v <- w` after which, before n, no node assigns v or w
 abbrev pub IsCopyOf : GraphShape → ℕ → ℕ → ℕ → Type 0
 IsCopyOf graph v w n = IsHeld graph v (Plain (Var w)) n
 
@@ -30,10 +31,10 @@ IsCopyOf graph v w n = IsHeld graph v (Plain (Var w)) n
 abbrev pub IsReadFor : GraphShape → ℕ → ℕ → ℕ → Type 0
 IsReadFor graph v w n = IsCopyOf graph v w n ⊎ ((w ≡ v) × ((u : ℕ) → IsCopyOf graph v u n → ⊥))
 
--- the variable that a right side is alone, where there is one that is, and v else
-abbrev pub source_or : ℕ → Option Rhs → ℕ
-source_or v None = v
-source_or v (Some (Plain (Var w))) = w
-source_or v (Some (Plain (Const c))) = v
-source_or v (Some (Unary op a)) = v
-source_or v (Some (Binary op a b)) = v
+-- the variable that is read for v where this right side holds for it: the one that it is, or v itself where it is none
+abbrev pub read_for : ℕ → Option Rhs → ℕ
+read_for v None = v
+read_for v (Some (Plain (Var w))) = w
+read_for v (Some (Plain (Const c))) = v
+read_for v (Some (Unary op a)) = v
+read_for v (Some (Binary op a b)) = v

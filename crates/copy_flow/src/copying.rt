@@ -3,8 +3,8 @@ ghost use Rattle.std.specs.Prelude.{IfOk};
 ghost use Rattle.flow_graph.specs.Passes.{GraphDivides, GraphKeeps};
 ghost use Rattle.copy_flow.specs.Copied.{HaveSameSuccs, IsCopied, IsOnlyCopied, StaysSplit};
 
+use crate::picking::PickCopies;
 use crate::rereading::reread_nodes;
-use crate::sources::PickCopies;
 use flow_graph::Graph;
 use held_assign::HeldAssigns;
 use mir_base::Memory;

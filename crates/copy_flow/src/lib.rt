@@ -10,8 +10,8 @@
 #![tactic(auto)]
 
 mod copying;
+mod picking;
 mod rereading;
-mod sources;
 
 pub use copying::{copied_splits, copies};
-pub use sources::PickCopies;
+pub use picking::PickCopies;

@@ -5,7 +5,7 @@ ghost use Rattle.held_assign.specs.Rows.{IsLookup};
 ghost use Rattle.copy_flow.specs.Copied.{assigned_unless_itself, reread_node};
 ghost use Rattle.copy_flow.specs.ByRows.{AreReread, IsAtNode, read_at};
 
-use crate::sources::{is_var, source_or};
+use crate::picking::{is_var, read_for};
 use flow_graph::{Graph, Node};
 use held_assign::HeldAssigns;
 use mir_base::{Args, Memory, Operand, Rhs, Test};
@@ -114,7 +114,7 @@ impl<'a> HeldAt<'a> {
         requires { IsAtNode self.now }
         ensures { result ≡ read_at self.now var }
     {
-        source_or(var, self.held.rhs_at(self.node, var))
+        read_for(var, self.held.rhs_at(self.node, var))
     }
 }
 

@@ -1,6 +1,6 @@
-// Which assignments are copies, and the variable that is read by one.
+// Which assignments are copies, and what is read where one holds.
 ghost use Rattle.std.specs.Prelude.{◌≡◌};
-ghost use Rattle.copy_flow.specs.Copies.{is_copy, is_var, source_or};
+ghost use Rattle.copy_flow.specs.Copies.{is_copy, is_var, read_for};
 
 use held_assign::Picks;
 use mir_base::{Operand, Rhs};
@@ -29,9 +29,10 @@ pub(crate) fn is_var(x: usize, rhs: Rhs) -> bool
     }
 }
 
-/// The variable that a right side is alone, and the other one where it is none.
-pub(crate) fn source_or(var: usize, rhs: Option<Rhs>) -> usize
-    ensures { result ≡ source_or var rhs }
+/// The variable that is read for `var` where this right side holds for it: the one that it is, or `var` itself where it
+/// is none.
+pub(crate) fn read_for(var: usize, rhs: Option<Rhs>) -> usize
+    ensures { result ≡ read_for var rhs }
 {
     match rhs {
         Some(Rhs::Plain(Operand::Var(source))) => source,
