@@ -1,6 +1,4 @@
 pub mod Copies
 pub mod Copied
 pub mod CopiedLaws
-pub mod CopyTables
-pub mod SameCopies
-pub mod Rows
+pub mod ByRows

@@ -3,9 +3,10 @@ ghost use Rattle.std.specs.Prelude.{IfOk};
 ghost use Rattle.flow_graph.specs.Passes.{GraphDivides, GraphKeeps};
 ghost use Rattle.copy_flow.specs.Copied.{HaveSameSuccs, IsCopied, IsOnlyCopied, StaysSplit};
 
-use crate::held::HeldCopies;
+use crate::picking::PickCopies;
 use crate::rereading::reread_nodes;
 use flow_graph::Graph;
+use held_assign::HeldAssigns;
 use mir_base::Memory;
 use std::alloc::Global;
 
@@ -33,8 +34,8 @@ pub fn copies(alloc: Global, graph: &Graph) -> Result<Graph, Memory>
     ensures split { IfOk result (StaysSplit graph.now) }
 {
     let _nodes = graph.nodes();
-    let copies = HeldCopies::of(alloc, graph)?;
-    let nodes = reread_nodes(alloc, graph, &copies)?;
+    let held = HeldAssigns::of(alloc, graph, &PickCopies)?;
+    let nodes = reread_nodes(alloc, graph, &held)?;
     let copied = graph.with_nodes(alloc, nodes)?;
     Ok(copied)
 }

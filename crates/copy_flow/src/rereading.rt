@@ -1,13 +1,13 @@
 // The nodes with what is read in the place of copies.
-ghost use Rattle.std.specs.Prelude.{◌≡◌, ◌<◌, length, map, IfNone, IfOk, IfSome};
+ghost use Rattle.std.specs.Prelude.{◌≡◌, length, map, IfOk};
 ghost use Rattle.flow_graph.specs.Numbering.{renamed_operand, renamed_rhs, renamed_test};
+ghost use Rattle.held_assign.specs.Rows.{IsLookup};
 ghost use Rattle.copy_flow.specs.Copied.{assigned_unless_itself, reread_node};
-ghost use Rattle.copy_flow.specs.Copies.{is_var};
-ghost use Rattle.copy_flow.specs.Rows.{AreReread, HaveNoneInBoth, IsAtNode, IsFirstInBoth, IsLookup, read_at};
+ghost use Rattle.copy_flow.specs.ByRows.{AreReread, IsAtNode, read_at};
 
-use crate::held::HeldCopies;
-use bit_rows::RowView;
+use crate::picking::{is_var, read_for};
 use flow_graph::{Graph, Node};
+use held_assign::HeldAssigns;
 use mir_base::{Args, Memory, Operand, Rhs, Test};
 use std::alloc::Global;
 
@@ -16,15 +16,15 @@ use std::alloc::Global;
 pub(crate) fn reread_nodes(
     alloc: Global,
     graph: &Graph,
-    copies: &HeldCopies,
+    held: &HeldAssigns,
 ) -> Result<Vec<Node>, Memory>
-    requires { IsLookup (length graph.now.vars) (length graph.now.nodes) copies.now }
-    ensures { IfOk result (λ nodes. AreReread copies.now graph.now.nodes nodes.items) }
+    requires { IsLookup (length graph.now.vars) (length graph.now.nodes) held.now }
+    ensures { IfOk result (λ nodes. AreReread held.now graph.now.nodes nodes.items) }
 {
     let old = graph.nodes();
     let mut nodes = Vec::with_capacity(alloc, old.len())?;
     for n in 0..old.len() {
-        let at = HeldAt { copies, node: n };
+        let at = HeldAt { held, node: n };
         let node = at.node(alloc, &old[n])?;
         nodes.push(node)?;
     }
@@ -34,7 +34,7 @@ pub(crate) fn reread_nodes(
 /// The copies of a graph, looked up at a node.
 #[derive(Clone, Copy)]
 struct HeldAt<'a> {
-    copies: &'a HeldCopies,
+    held: &'a HeldAssigns,
     node: usize,
 }
 
@@ -114,32 +114,8 @@ impl<'a> HeldAt<'a> {
         requires { IsAtNode self.now }
         ensures { result ≡ read_at self.now var }
     {
-        let copies = self.copies;
-        if var >= copies.targets.len() {
-            return var;
-        }
-        match first_in_both(&copies.targets.row(var), &copies.held.row(self.node)) {
-            Some(number) => copies.table.get(number).source,
-            None => var,
-        }
+        read_for(var, self.held.rhs_at(self.node, var))
     }
-}
-
-/// The first bit that both rows have, which are equally long. The bits of the first are tried in turn.
-fn first_in_both(row: &RowView<'_>, other: &RowView<'_>) -> Option<usize>
-    requires { length row.now ≡ length other.now }
-    ensures found { IfSome result (IsFirstInBoth row.now other.now) }
-    ensures none { IfNone result (HaveNoneInBoth row.now other.now) }
-{
-    let mut from = 0;
-    while from < row.len() {
-        let number = row.next_true(from)?;
-        if other.get(number) {
-            return Some(number);
-        }
-        from = number + 1;
-    }
-    None
 }
 
 /// The assignment, or a Skip where it assigns a variable to itself.
@@ -150,15 +126,5 @@ fn assigned_unless_itself(x: usize, rhs: Rhs, next: usize) -> Node
         Node::Skip(next)
     } else {
         Node::Assign(x, rhs, next)
-    }
-}
-
-/// Whether a right side is this variable alone.
-fn is_var(x: usize, rhs: Rhs) -> bool
-    ensures { result ≡ is_var x rhs }
-{
-    match rhs {
-        Rhs::Plain(Operand::Var(y)) => x == y,
-        _ => false,
     }
 }

@@ -1,23 +1,24 @@
 // At which nodes the copies of a graph hold.
 ghost use Rattle.std.specs.Prelude.{◌<◌, length};
 
-use crate::tests::shown::{put_bit, put_var};
-use copy_flow::HeldCopies;
+use crate::tests::shown::{put_bit, put_rhs, put_var};
+use copy_flow::PickCopies;
 use flow_graph::Graph;
+use held_assign::HeldAssigns;
 use mir_base::{Memory, Name};
 use std::alloc::Global;
 use std::mem;
 
 /// A line for each distinct copy of a graph, with the nodes at which it holds.
 pub(crate) fn copies_text(alloc: Global, graph: &Graph) -> Result<String, Memory> {
-    let copies = HeldCopies::of(alloc, graph)?;
+    let copies = HeldAssigns::of(alloc, graph, &PickCopies)?;
     let text = lines_of(alloc, graph.vars(), &copies);
     mem::drop(copies);
     text
 }
 
 /// The lines of these copies.
-fn lines_of(alloc: Global, vars: &[Name], copies: &HeldCopies) -> Result<String, Memory> {
+fn lines_of(alloc: Global, vars: &[Name], copies: &HeldAssigns) -> Result<String, Memory> {
     let mut text = String::new(alloc);
     for number in 0..copies.table.len() {
         put_copy(&mut text, vars, copies, number)?;
@@ -29,7 +30,7 @@ fn lines_of(alloc: Global, vars: &[Name], copies: &HeldCopies) -> Result<String,
 fn put_copy(
     text: &mut String,
     vars: &[Name],
-    copies: &HeldCopies,
+    copies: &HeldAssigns,
     number: usize,
 ) -> Result<(), Memory>
     requires { number < length copies.now.table }
@@ -37,6 +38,6 @@ fn put_copy(
     let copy = *copies.table.get(number);
     put_var(text, vars, copy.target)?;
     text.push_str(" <- ")?;
-    put_var(text, vars, copy.source)?;
+    put_rhs(text, vars, &copy.rhs)?;
     put_bit(text, "", &copies.held, number)
 }

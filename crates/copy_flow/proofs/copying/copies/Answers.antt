@@ -3,12 +3,14 @@ use Rattle.flow_graph.specs.Graphs.{IsGraph, succs_at}
 use Rattle.flow_graph.specs.Edges.{IsSplit}
 use Rattle.flow_graph.specs.Dividing.{DividesStay}
 use Rattle.flow_graph.specs.KeepsLaws.{made_keeps, same_globals}
+use Rattle.held_assign.specs.HeldValueLaws.{cheaper_by_held, same_by_held}
+use Rattle.held_assign.specs.Rows.{held_at}
 use Rattle.copy_flow.specs.Copied.{AreCopied, IsCopied}
 use Rattle.copy_flow.specs.CopiedLaws.{copied_is_one}
-use Rattle.copy_flow.specs.Rows.{read_by}
-use Rattle.copy_flow.proofs.Found.{row_reads}
+use Rattle.copy_flow.specs.ByRows.{read_by}
+use Rattle.copy_flow.proofs.Found.{found_read}
+use Rattle.copy_flow.proofs.Meaning.{code_same}
 use Rattle.copy_flow.proofs.Shapes.{copied_calls, copied_divides, copied_split, copied_succs}
-use Rattle.copy_flow.proofs.Steps.{copied_cheaper, copied_same}
 use Rattle.copy_flow.proofs.Whole.{all_reached, copied_can_make}
 use Rattle.copy_flow.proofs.copying.copies.Goals as goal
 use Rattle.copy_flow.proofs.copying.copies.Goals.{In_ok-nodes, In_ok-copied}
@@ -17,13 +19,13 @@ use Rattle.copy_flow.proofs.copying.copies.Goals.{In_ok-nodes, In_ok-copied}
 is_graph : (c : In_ok-nodes) → IsGraph c.args.graph.now.vars c.args.graph.now.received c.args.graph.now.nodes
 is_graph c = rw (← c.nodes-nodes.ensures.value) c.nodes-nodes.ensures.graph
 
--- the nodes are copied by what the rows of copies read
+-- the nodes are copied by what the rows of copies tell
 are : (c : In_ok-nodes) → AreCopied c.args.graph.now c.in_ok-nodes.nodes.items
 are c =
-    let copies = c.in_ok-copies.copies in
+    let held = c.in_ok-held.held in
     record {
-      read = read_by copies;
-      is_read = λ n v lt. row_reads c.args.graph.now copies.table copies.held c.in_ok-copies.ensures.all c.in_ok-copies.ensures.held n v lt;
+      read = read_by held;
+      is_read = λ n v lt. found_read c.args.graph.now n v (held_at held n v) (c.in_ok-held.ensures.tells n v lt);
       nodes_are = c.in_ok-nodes.ensures;
     }
 
@@ -63,7 +65,7 @@ returns-clause-keeps c =
     let nodes = c.in_ok-nodes.nodes.items in
     let known = (goal.at.returns-clause-keeps c).In_ok-nodes in
     let can = (is_graph known).can in
-    made_keeps graph c.in_ok-copied.copied nodes c.in_ok-copied.ensures.made.name_is (same_globals graph c.in_ok-copied.copied c.in_ok-copied.ensures.made.shared_is c.in_ok-copied.ensures.made.vars_are) (copied_same graph can nodes (are known)) (copied_cheaper graph can nodes (are known)) (copied_calls graph nodes (are known))
+    made_keeps graph c.in_ok-copied.copied nodes c.in_ok-copied.ensures.made.name_is (same_globals graph c.in_ok-copied.copied c.in_ok-copied.ensures.made.shared_is c.in_ok-copied.ensures.made.vars_are) (same_by_held graph can nodes (code_same graph nodes (are known))) (cheaper_by_held graph can nodes (code_same graph nodes (are known))) (copied_calls graph nodes (are known))
     c.in_ok-copied.ensures.same c.in_ok-copied.ensures.cheaper c.in_ok-copied.ensures.calls
 
 pub returns-clause-divides : goal.returns-clause-divides

@@ -1,5 +1,5 @@
 use Rattle.std.proofs.Common.{length, refl, subst, sym}
-use Rattle.copy_flow.specs.Rows.{AreHeldRows}
+use Rattle.held_assign.specs.Rows.{AreHeldRows}
 use Rattle.pass_table.specs.Copies.{copies_below}
 use Rattle.pass_table.proofs.copies.put_copies.Goals as goal
 

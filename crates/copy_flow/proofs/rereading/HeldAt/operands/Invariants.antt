@@ -1,6 +1,6 @@
 use Rattle.std.proofs.Common.{◌≡◌, map, take}
 use Rattle.flow_graph.specs.Numbering.{renamed_operand}
-use Rattle.copy_flow.specs.Rows.{read_at}
+use Rattle.copy_flow.specs.ByRows.{read_at}
 use Rattle.copy_flow.proofs.rereading.HeldAt.operands.Given as goal
 
 abbrev pub invariant-loop-a : goal.invariant-loop-a
