@@ -1,4 +1,5 @@
-pub mod Making
+pub mod NumberLaws
+pub mod TermLaws
+pub mod JoinLaws
+pub mod RunLaws
 pub mod Meaning
-pub mod Shapes
-pub mod Whole
