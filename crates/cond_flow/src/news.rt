@@ -24,9 +24,12 @@ impl Model for StateNews {
 }
 
 /// Up to so many variables each push takes the whole state: to look at all of them costs no more than to keep news.
-pub(crate) const MOST_SMALL: usize = 256;
+pub(crate) const MOST_SMALL: usize = 16;
 
-/// One in so many variables may be told of; if more are raised, all is news.
+/// So many variables may be told of, and one in `SHARE` of all; if more are raised, all is news.
+const FEW: usize = 32;
+
+/// One in so many of all variables may be told of.
 const SHARE: usize = 16;
 
 impl StateNews {
@@ -35,7 +38,7 @@ impl StateNews {
         let most = if variables <= MOST_SMALL {
             0
         } else {
-            variables / SHARE
+            FEW + variables / SHARE
         };
         let raised = Vec::with_capacity(alloc, most)?;
         Ok(StateNews {
