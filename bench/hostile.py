@@ -39,7 +39,7 @@ COMMANDS = ('optimise', 'stages', 'move', 'ranges', 'divisions', 'tails', 'join'
             'passes fold', 'passes number', 'passes copies', 'passes sink', 'passes comparisons',
             'passes bounds', 'passes demanded', 'passes 64', 'run 1000000')
 
-PASSES = 'tails join optimise clean fold number copies motion divisions sink comparisons bounds wanted demanded called'.split()
+PASSES = 'tails join arguments optimise clean fold number copies motion divisions sink comparisons terms bounds extensions unread wanted demanded called'.split()
 
 # The most passes of a chain, and the chains of so many: all in turn, each alone, and three that are drawn.
 MOST_PASSES = 64
