@@ -1,0 +1,4 @@
+pub mod Terms
+pub mod Termed
+pub mod TermedLaws
+pub mod ByRows

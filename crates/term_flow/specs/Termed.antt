@@ -1,0 +1,60 @@
+-- The graph in which operators with constants on one another are one. Cited by contracts.
+use Rattle.std.specs.Prelude.{◌≡◌, ℕ, ◌<◌, List, length, slice_get, Option, option_map}
+use Rattle.std.specs.Option.{unwrap_or}
+use Rattle.mir_base.specs.declared.instructions.Rhs.{Rhs}
+use Rattle.flow_graph.specs.declared.nodes.Node.{Node}
+use Rattle.flow_graph.specs.declared.nodes.Node.TheVariants.{Start, Skip, Assign, Print, Guard, Call, Test, Return}
+use Rattle.flow_graph.specs.Edges.{IsSplit}
+use Rattle.flow_graph.specs.Graphs.{GraphShape, succs_at}
+use Rattle.held_assign.specs.Holding.{IsHeldRhs}
+use Rattle.term_flow.specs.Terms.{is_term, joined_of, read_rhs}
+
+-- ---- what a node becomes, where `held` tells for each variable the right side that it holds
+
+-- a right side: the one that joins it to what its variable holds, and itself where there is none
+abbrev pub joined_rhs : (ℕ → Option Rhs) → Rhs → Rhs
+joined_rhs held rhs = unwrap_or (joined_of held (read_rhs rhs)) rhs
+
+-- an assignment takes such a right side
+abbrev pub termed_node : (ℕ → Option Rhs) → Node → Node
+termed_node held (Start next) = Start next
+termed_node held (Skip next) = Skip next
+termed_node held (Assign x rhs next) = Assign x (joined_rhs held rhs) next
+termed_node held (Print a next) = Print a next
+termed_node held (Guard test number next) = Guard test number next
+termed_node held (Call into unit operands next) = Call into unit operands next
+termed_node held (Test test taken other) = Test test taken other
+termed_node held (Return a) = Return a
+
+-- ---- the graph
+
+-- the right side of a variable and a constant, or the comparison, that a variable holds before node n, or none
+abbrev pub IsHeldTerm : GraphShape → ℕ → ℕ → Option Rhs → Type 0
+IsHeldTerm graph n v rhs = IsHeldRhs (λ x t. is_term t) graph n v rhs
+
+-- each node with the right sides that hold before it, all decided on the nodes as they were
+pub record AreTermed (graph : GraphShape) (nodes : List Node) : Type 0 where
+  pub held : ℕ → ℕ → Option Rhs
+  pub is_held : (n v : ℕ) → n < length graph.nodes → IsHeldTerm graph n v (held n v)
+  pub nodes_are : (n : ℕ)
+      → slice_get nodes n ≡ option_map (termed_node (held n)) (slice_get graph.nodes n)
+
+-- the graph with these nodes in the place of the old ones
+pub record IsTermed (graph termed : GraphShape) : Type 0 where
+  pub name_is : termed.name ≡ graph.name
+  pub shared_is : termed.shared ≡ graph.shared
+  pub vars_are : termed.vars ≡ graph.vars
+  pub received_are : termed.received ≡ graph.received
+  pub nodes_are : AreTermed graph termed.nodes
+
+-- no other graph is the termed one
+abbrev pub IsOnlyTermed : GraphShape → GraphShape → Type 0
+IsOnlyTermed graph termed = (other : GraphShape) → IsTermed graph other → other ≡ termed
+
+-- each node has the successors that it had
+abbrev pub KeepsSuccs : GraphShape → GraphShape → Type 0
+KeepsSuccs graph termed = (n : ℕ) → succs_at termed.nodes n ≡ succs_at graph.nodes n
+
+-- a split graph stays split
+abbrev pub KeepsSplit : GraphShape → GraphShape → Type 0
+KeepsSplit graph termed = IsSplit graph.nodes → IsSplit termed.nodes
