@@ -1,0 +1,4 @@
+pub mod Making
+pub mod Meaning
+pub mod Shapes
+pub mod Whole
