@@ -7,7 +7,7 @@ use Rattle.pass_chain.specs.declared.passes.Pass.{Pass}
 use Rattle.pass_chain.specs.Passes.{IsChained}
 use Rattle.pass_chain.specs.ChainLaws.{HasCome, at_first, at_last, one_more}
 use Rattle.program_pass.specs.KeepsLaws.{keeps_trans}
-use Rattle.program_pass.specs.PassPrograms.{IsOnly, KeepsRuns, Rewrites}
+use Rattle.program_pass.specs.PassPrograms.{Rewrites}
 use Rattle.program_turns.specs.Turns.{IsTurn, TurnsMake, first_half, second_half, turn}
 
 -- ---- halves of a turn
@@ -33,6 +33,13 @@ chains_rewrite passes others source middle target first second = record {
       let parts = chain_parts passes others source other chain in
       second.only other (subst (λ p. IsChained others p other) (sym (first.only parts.0 parts.1.0)) parts.1.1);
   keeps = keeps_trans source middle target first.keeps second.keeps;
+}
+
+-- the second half of a turn on what its first half makes
+pub halves_turn : (source half begun whole : ProgramShape) → Rewrites (IsChained first_half) source half → begun ≡ half → Rewrites (IsChained second_half) half whole → IsTurn source begun whole
+halves_turn source half begun whole first same second = record {
+  first = subst (λ p. Rewrites (IsChained first_half) source p) (sym same) first;
+  second = subst (λ p. Rewrites (IsChained second_half) p whole) (sym same) second;
 }
 
 -- a turn is its second half on its first

@@ -1,5 +1,5 @@
 -- The passes of a turn, in two halves, and the turns that are made of a program. Cited by contracts, `IsTurn` and
--- `ComesBehind` by those of private functions.
+-- `ChangesBy` by those of private functions.
 use Rattle.std.specs.Prelude.{◌≡◌, ◌≢◌, ◌⊎◌, ℕ, zero, suc, List, [], ◌∷◌}
 use Rattle.mir_base.specs.Shapes.{ProgramShape}
 use Rattle.program_pass.specs.PassPrograms.{Rewrites}

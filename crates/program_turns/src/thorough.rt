@@ -1,5 +1,5 @@
 // Turns until nothing changes.
-ghost use Rattle.std.specs.Prelude.{IfOk, MatchOption};
+ghost use Rattle.std.specs.Prelude.{◌≡◌, IfOk, MatchOption};
 ghost use Rattle.program_pass.specs.PassPrograms.{IsOnly, KeepsRuns, Rewrites};
 ghost use Rattle.pass_chain.specs.Passes.{IsChained};
 ghost use Rattle.program_turns.specs.Turns.{ChangesBy, IsThorough, IsTurn, TurnsMake, second_half, turn};
@@ -107,8 +107,8 @@ fn turn_of(alloc: Global, program: &Program) -> Result<Turn, Memory>
 
 /// The turn whose first half made this program.
 fn whole_turn(alloc: Global, half: Program) -> Result<Turn, Memory>
-    ensures { IfOk result (λ made. made.half ≡ half ×
-        Rewrites (IsChained second_half) half made.whole) }
+    ensures begun { IfOk result (λ made. made.half ≡ half) }
+    ensures ended { IfOk result (λ made. Rewrites (IsChained second_half) half made.whole) }
 {
     let whole = chain_program(alloc, &SECOND_HALF, &half)?;
     Ok(Turn { half, whole })
