@@ -1,6 +1,6 @@
 -- The law of steps in runs: two machines do the same where, at each frame of a run of the first, they take alike steps. So
 -- all that is known of the frames of runs may be used for each step. For proofs only, here and above.
-use Rattle.std.proofs.Common.{◌≡◌, ℕ, suc, ◌+◌, List, [], ◌∷◌, ◌++◌, length, sym, ap, ◌∙◌, refl, subst, arith}
+use Rattle.std.proofs.Common.{◌≡◌, ℕ, suc, ◌+◌, List, [], ◌∷◌, ◌++◌, sym, ap, ◌∙◌, refl, subst, arith}
 use Rattle.std.proofs.lemmas.List.{append_assoc, append-nil}
 use Rattle.std.proofs.lemmas.List.Elements.{All-append, All-cons, All-nil}
 use Rattle.mir_base.specs.Frames.{CallEntry, Answer, Frame, first_frame, resumed, Transition, Continues, Prints, Calls, Returns, Traps}
@@ -32,7 +32,9 @@ module _ (machine : Machine) where
     used = [];
     are_answers = All-nil (IsCallAnswer machine.shared);
     steps = 0;
-    is = λ more rest. refl;
+    is = λ more rest.
+        let none : 0 + more ≡ more = omega arith in
+        ap (λ n. frame_after machine.code n (first_frame entry) rest) none;
   }
 
   -- and of the frame after a step for which no answer is used
