@@ -15,3 +15,4 @@ mod tests_of;
 
 pub use facts::ZeroFact;
 pub use laws::zeros_hold;
+pub use reading::may_be_nought;

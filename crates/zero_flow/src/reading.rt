@@ -1,5 +1,6 @@
 // The facts of variables, operands and right sides.
 ghost use Rattle.std.specs.Prelude.{◌≡◌};
+ghost use Rattle.zero_flow.specs.ZeroRules.{may_be_nought};
 ghost use Rattle.zero_flow.specs.Zeros.{with_zero, zero_of, zero_of_number, zero_of_rhs};
 
 use crate::facts::ZeroFact;
@@ -42,5 +43,21 @@ pub(crate) fn put_zero(facts: &mut Facts<ZeroFact>, a: Operand, fact: ZeroFact)
     match a {
         Operand::Var(x) => facts.set(x, fact),
         Operand::Const(_) => (),
+    }
+}
+
+/// Whether an operand may be 0, by what is known of the variables by their numbers. It does not allocate.
+pub fn may_be_nought(known: &[ZeroFact], a: Operand) -> bool
+    ensures { result ≡ may_be_nought known.now a }
+{
+    match a {
+        Operand::Var(x) => {
+            if x < known.len() {
+                known[x].may_be_zero()
+            } else {
+                true
+            }
+        }
+        Operand::Const(c) => zero_of_number(c).may_be_zero(),
     }
 }
