@@ -1,6 +1,6 @@
 // What an operator with a constant makes of a variable that holds another right side.
 ghost use Rattle.std.specs.Prelude.{◌≡◌, Some};
-ghost use Rattle.term_flow.specs.Terms.{added, both, is_term, joined_to, over_by, over_read, repeated, solved, taken_from};
+ghost use Rattle.term_flow.specs.Terms.{added, both, is_term, joined_to, over_by, over_read, read_rhs, repeated, solved, taken_from};
 
 use crate::comparing::{denied_rhs, of_truth};
 use crate::numbers::{both_far, value_of, within_word};

@@ -9,11 +9,11 @@
 //! what becomes of the nodes.
 #![tactic(auto)]
 
+mod chains;
 mod comparing;
 mod joining;
 mod numbers;
 mod reading;
 mod rewriting;
-mod whole;
 
-pub use whole::terms;
+pub use chains::terms;

@@ -1,0 +1,213 @@
+-- Nodes that do, at each frame of a run of a graph, what the graph does and count no more, make a graph that does the same.
+-- At such a frame all values are signed 64-bit numbers.
+use Rattle.std.proofs.Common.{◌≡◌, ℕ, zero, suc, ◌+◌, ◌≤◌, Bool, true, false, if◌then◌else◌, List, [], ◌∷◌, ◌++◌, length, slice_get, slice_index_or, ℤ, pos, Option, Some, None, refl, sym, ap, ◌∙◌, subst, arith, le_refl, zero-add, append_assoc}
+use Rattle.std.proofs.lemmas.List.{append-nil}
+use Rattle.std.proofs.lemmas.List.Elements.{All-append, All-cons, All-nil}
+use Rattle.mir_base.specs.declared.instructions.Rhs.{Rhs}
+use Rattle.mir_base.specs.declared.operators.Trap.TheVariants.{ZeroDivisor, Raised}
+use Rattle.mir_base.specs.ExpressionLaws.{assign_is}
+use Rattle.mir_base.specs.Expressions.{rhs_count, rhs_traps, rhs_value}
+use Rattle.mir_base.specs.FrameLaws.{FrameFits, ValuesFit, argument_fits, assigned_fits, at_fits, first_fits, resumed_fits, rhs_fits, shared_values_fit, with_first_fits, with_value_fits}
+use Rattle.mir_base.specs.Frames.{Answer, CallEntry, Frame, Transition, Calls, Continues, Prints, Returns, Traps, Values, all_zero, first_frame, resumed, shared_values, with_first, with_value}
+use Rattle.mir_base.specs.LockstepLaws.{lockstep_cheaper, lockstep_same}
+use Rattle.mir_base.specs.Locksteps.{Alike, Lockstep}
+use Rattle.mir_base.specs.NumberLaws.{zero_fits}
+use Rattle.mir_base.specs.Runs.{AreNumbers}
+use Rattle.mir_base.specs.Simulations.{HandsOver}
+use Rattle.mir_base.specs.UnitRuns.{AreAnswers, IsCallAnswer, IsEntry, UnitCheaper, UnitSame}
+use Rattle.mir_base.specs.Units.{assigned, at, test_holds}
+use Rattle.flow_graph.specs.declared.nodes.Node.{Node}
+use Rattle.flow_graph.specs.declared.nodes.Node.TheVariants.{Start, Skip, Assign, Print, Guard, Call, Test, Return}
+use Rattle.flow_graph.specs.Graphs.{GraphShape}
+use Rattle.flow_graph.specs.MachineLaws.{graph_hands}
+use Rattle.flow_graph.specs.Machines.{graph_code, graph_machine, machine_of, node_transition, received_from}
+use Rattle.flow_graph.specs.RunFrames.{IsRunFrame, frame_after, frame_after_transition}
+
+-- ---- values fit
+
+-- a frame that has received numbers in range
+received_fits : (received : List ℕ) (i : ℕ) (arguments : List ℤ) (values : Values) → AreNumbers arguments → ValuesFit values → ValuesFit (received_from i received arguments values)
+received_fits [] i arguments values numbers fits = fits
+received_fits (x ∷ received) i arguments values numbers fits =
+    received_fits received (suc i) arguments (with_value x (slice_index_or arguments i (pos 0)) values) numbers (with_value_fits x (slice_index_or arguments i (pos 0)) values (argument_fits arguments i numbers) fits)
+
+-- the frame from which the run goes on fits, where it does
+abbrev NextFits : Transition → Type 0
+NextFits (Continues n next) = FrameFits next
+NextFits (Prints v next) = FrameFits next
+NextFits (Calls unit entry into next) = FrameFits next
+NextFits (Returns answer) = Unit {0}
+NextFits (Traps kind n) = Unit {0}
+
+-- each node leads on from frames that fit to such frames
+next_fits : (shared : ℕ) (received : List ℕ) (o : Option Node) (f : Frame) → FrameFits f → NextFits (node_transition shared received o f)
+next_fits shared received None f fits = tt
+next_fits shared received (Some (Start next)) f fits = record {
+  values = received_fits received 0 f.arguments (with_first (shared_values shared f.values) all_zero) fits.arguments
+      (with_first_fits (shared_values shared f.values) all_zero (shared_values_fit shared f.values fits.values).numbers (record { fit = λ x. zero_fits }));
+  arguments = fits.arguments;
+}
+next_fits shared received (Some (Skip next)) f fits = at_fits next f fits
+next_fits shared received (Some (Assign x rhs next)) f fits = subst NextFits (sym (assign_is x rhs next f)) (by (rhs_traps f.values rhs))
+  where
+    by : (b : Bool) → NextFits (if b then Traps ZeroDivisor 1 else Continues (rhs_count rhs) (assigned x (rhs_value f.values rhs) next f))
+    by true = tt
+    by false = assigned_fits x (rhs_value f.values rhs) next f (rhs_fits f.values rhs fits.values) fits
+next_fits shared received (Some (Print a next)) f fits = at_fits next f fits
+next_fits shared received (Some (Guard test number next)) f fits = by (test_holds f.values test)
+  where
+    by : (b : Bool) → NextFits (if b then Traps (Raised number) 0 else Continues 0 (at next f))
+    by true = tt
+    by false = at_fits next f fits
+next_fits shared received (Some (Call into unit operands next)) f fits = at_fits next f fits
+next_fits shared received (Some (Test test taken other)) f fits = at_fits (if test_holds f.values test then taken else other) f fits
+next_fits shared received (Some (Return a)) f fits = tt
+
+-- ---- transitions that show the same, the second counting no more, to equal frames
+
+abbrev pub AsCheap : Transition → Transition → Type 0
+AsCheap t t' = Alike (λ f g. g ≡ f) t t'
+
+-- a transition and itself
+pub as_cheap : (t : Transition) → AsCheap t t
+as_cheap (Continues n f) = (le_refl n, refl)
+as_cheap (Prints v f) = (refl, refl)
+as_cheap (Calls unit entry into f) = (refl, refl, λ answer is. refl)
+as_cheap (Returns answer) = refl
+as_cheap (Traps kind n) = refl
+
+module _ (S : Frame → Frame → Type 0) where
+  -- where a transition leads to a frame that is related to itself, it is related to what is as cheap
+  alike_cheap : (t t' : Transition) → Alike S t t → AsCheap t t' → Alike S t t'
+  alike_cheap (Continues n f) (Continues m g) alike cheap = (cheap.0, subst (S f) (sym cheap.1) alike.1)
+  alike_cheap (Prints v f) (Prints w g) alike cheap = (cheap.0, subst (S f) (sym cheap.1) alike.1)
+  alike_cheap (Calls unit entry into f) (Calls unit' entry' into' g) alike cheap =
+      (cheap.0, cheap.1, λ answer is. subst (S (resumed into answer f)) (sym (cheap.2 answer is)) (alike.2 answer is))
+  alike_cheap (Returns answer) (Returns answer') alike cheap = cheap
+  alike_cheap (Traps kind n) (Traps kind' m) alike cheap = cheap
+  alike_cheap _ _ alike cheap = absurd cheap
+
+module _ (graph : GraphShape) where
+  -- what the graph does at a frame
+  abbrev code : Frame → Transition
+  code = graph_code graph.shared graph.received graph.nodes
+
+  -- ---- frames of runs
+
+  -- some run comes to the frame in so many steps, with all of these answers used; so what comes after it are steps from
+  -- the frame
+  record Comes (f : Frame) : Type 0 where
+    entry : CallEntry
+    answers : List Answer
+    steps : ℕ
+    is_entry : IsEntry (machine_of graph) entry
+    are_answers : AreAnswers graph.shared answers
+    leads : (k : ℕ) (more : List Answer) → frame_after code (steps + k) (first_frame entry) (answers ++ more) ≡ frame_after code k f more
+
+  -- a run begins
+  begins : (entry : CallEntry) → IsEntry (machine_of graph) entry → Comes (first_frame entry)
+  begins entry is = record {
+    entry = entry;
+    answers = [];
+    steps = 0;
+    is_entry = is;
+    are_answers = All-nil (IsCallAnswer graph.shared);
+    leads = λ k more. ap (λ n. frame_after code n (first_frame entry) more) (zero-add k);
+  }
+
+  -- it goes on
+  goes_on : (f g : Frame) → Comes f → ((k : ℕ) (more : List Answer) → frame_after code (suc k) f more ≡ frame_after code k g more) → Comes g
+  goes_on f g comes step = record {
+    entry = comes.entry;
+    answers = comes.answers;
+    steps = suc comes.steps;
+    is_entry = comes.is_entry;
+    are_answers = comes.are_answers;
+    leads = λ k more.
+        let e : suc comes.steps + k ≡ comes.steps + suc k = omega arith in
+        ap (λ n. frame_after code n (first_frame comes.entry) (comes.answers ++ more)) e ∙ comes.leads (suc k) more ∙ step k more;
+  }
+
+  -- a call gets an answer
+  answered_on : (f g : Frame) (answer : Answer) → IsCallAnswer graph.shared answer → Comes f → ((k : ℕ) (more : List Answer) → frame_after code (suc k) f (answer ∷ more) ≡ frame_after code k g more) → Comes g
+  answered_on f g answer is comes step = record {
+    entry = comes.entry;
+    answers = comes.answers ++ (answer ∷ []);
+    steps = suc comes.steps;
+    is_entry = comes.is_entry;
+    are_answers = All-append (IsCallAnswer graph.shared) comes.answers (answer ∷ []) comes.are_answers (All-cons (IsCallAnswer graph.shared) answer [] is (All-nil (IsCallAnswer graph.shared)));
+    leads = λ k more.
+        let e : suc comes.steps + k ≡ comes.steps + suc k = omega arith in
+        let l : (comes.answers ++ (answer ∷ [])) ++ more ≡ comes.answers ++ (answer ∷ more) = append_assoc comes.answers (answer ∷ []) more in
+        ap (λ n. frame_after code n (first_frame comes.entry) ((comes.answers ++ (answer ∷ [])) ++ more)) e
+        ∙ ap (frame_after code (comes.steps + suc k) (first_frame comes.entry)) l ∙ comes.leads (suc k) (answer ∷ more) ∙ step k more;
+  }
+
+  -- so it is a frame of a run
+  is_run_frame : (f : Frame) → Comes f → IsRunFrame (machine_of graph) f
+  is_run_frame f comes =
+      let none : comes.steps ≡ comes.steps + 0 = omega arith in
+      record {
+        entry = comes.entry;
+        answers = comes.answers;
+        is_entry = comes.is_entry;
+        are_answers = comes.are_answers;
+        steps = comes.steps;
+        is = ap (λ n. frame_after code n (first_frame comes.entry) comes.answers) none
+            ∙ ap (frame_after code (comes.steps + 0) (first_frame comes.entry)) (sym (append-nil comes.answers)) ∙ comes.leads 0 [];
+      }
+
+  -- ---- one frame of a run on both sides
+
+  record Along (f g : Frame) : Type 0 where
+    same : g ≡ f
+    comes : Comes f
+    fits : FrameFits f
+
+  -- one step of the graph beside itself
+  step_along : (f : Frame) → Comes f → (t : Transition) → code f ≡ t → HandsOver graph.shared t → NextFits t → Alike Along t t
+  step_along f comes (Continues n g) e hands fits = (
+    le_refl n,
+    record { same = refl; comes = goes_on f g comes (λ k more. ap (λ t. frame_after_transition (frame_after code k) t more) e); fits = fits },
+  )
+  step_along f comes (Prints v g) e hands fits = (
+    refl,
+    record { same = refl; comes = goes_on f g comes (λ k more. ap (λ t. frame_after_transition (frame_after code k) t more) e); fits = fits },
+  )
+  step_along f comes (Calls unit entry into g) e hands fits = (
+    refl,
+    refl,
+    λ answer is.
+        let its : IsCallAnswer graph.shared answer = subst (λ n. IsCallAnswer n answer) hands is in
+        record {
+          same = refl;
+          comes = answered_on f (resumed into answer g) answer its comes (λ k more. ap (λ t. frame_after_transition (frame_after code k) t (answer ∷ more)) e);
+          fits = resumed_fits graph.shared into answer g its fits;
+        },
+  )
+  step_along f comes (Returns answer) e hands fits = refl
+  step_along f comes (Traps kind n) e hands fits = refl
+
+  module _ (nodes : List Node) (cheap : (f : Frame) → IsRunFrame (machine_of graph) f → ValuesFit f.values → AsCheap (code f) (graph_code graph.shared graph.received nodes f)) where
+    steps : (f g : Frame) → Along f g → Alike Along (code f) (graph_code graph.shared graph.received nodes g)
+    steps f g on =
+        let itself = step_along f on.comes (code f) refl (graph_hands graph.shared graph.received graph.nodes f) (next_fits graph.shared graph.received (slice_get graph.nodes f.place) f on.fits) in
+        subst (λ h. Alike Along (code f) (graph_code graph.shared graph.received nodes h)) (sym on.same)
+        (alike_cheap Along (code f) (graph_code graph.shared graph.received nodes f) itself (cheap f (is_run_frame f on.comes) on.fits.values))
+
+    in_lockstep : Lockstep (machine_of graph) (graph_machine graph.shared graph.received nodes) Along
+    in_lockstep = record {
+      receives = refl;
+      shared = refl;
+      hands = graph_hands graph.shared graph.received graph.nodes;
+      starts = λ entry is. record { same = refl; comes = begins entry is; fits = first_fits entry is.numbers is.globals.numbers };
+      steps = steps;
+    }
+
+    -- they do the same as the graph
+    pub same_in_runs : UnitSame (machine_of graph) (graph_machine graph.shared graph.received nodes)
+    same_in_runs = lockstep_same (machine_of graph) (graph_machine graph.shared graph.received nodes) Along in_lockstep
+
+    -- and evaluate no more operators
+    pub cheaper_in_runs : UnitCheaper (machine_of graph) (graph_machine graph.shared graph.received nodes)
+    cheaper_in_runs = lockstep_cheaper (machine_of graph) (graph_machine graph.shared graph.received nodes) Along in_lockstep
