@@ -93,6 +93,12 @@ extension_of held (Plain a) = None
 extension_of held (Unary op a) = None
 extension_of held (Binary op a b) = extension_on held op a b
 
--- the extension keeps all numbers of which the fact holds
+-- ---- what is kept
+
+-- all numbers of which the fact holds lie from the one number to the other
+abbrev pub lies_between : ℤ → ℤ → Fact → Bool
+lies_between low high fact = int_le low (low_of fact) && int_le (high_of fact) high
+
+-- the extension keeps all these
 abbrev pub keeps_all : Extension → Fact → Bool
-keeps_all e fact = int_le e.low (low_of fact) && int_le (high_of fact) e.high
+keeps_all e fact = lies_between e.low e.high fact

@@ -1,6 +1,6 @@
 // Shifts to the left, and the shifts back that extend a variable.
-ghost use Rattle.std.specs.Prelude.{◌≡◌, ◌-◌, ◌<◌, ◌^◌, pos, IfSome};
-ghost use Rattle.extend_flow.specs.Extensions.{IsDistance, extension_by, extension_held, is_left_shift, keeps_all, left_shift_of, shift_of, signed_extension, unsigned_extension};
+ghost use Rattle.std.specs.Prelude.{◌≡◌, ◌-◌, ◌<◌, ◌^◌, neg_ℤ, pos, IfSome};
+ghost use Rattle.extend_flow.specs.Extensions.{IsDistance, extension_by, extension_held, is_left_shift, keeps_all, left_shift_of, lies_between, shift_of, signed_extension, unsigned_extension};
 
 use bounds::{Fact, may_hold};
 use held_assign::Picks;
@@ -119,11 +119,10 @@ fn signed_extension(shift: LeftShift) -> Extension
     requires { IsDistance shift.distance }
     ensures { result ≡ signed_extension shift }
 {
-    let high = greatest(63 - shift.distance);
     Extension {
         source: shift.source,
-        low: -high - 1,
-        high,
+        low: least(63 - shift.distance),
+        high: greatest(63 - shift.distance),
     }
 }
 
@@ -147,11 +146,26 @@ fn greatest(bits: u32) -> i64
     ((1u64 << bits) - 1) as i64
 }
 
+/// The least number of so many bits and a sign.
+fn least(bits: u32) -> i64
+    requires { bits < 64 }
+    ensures { result ≡ neg_ℤ (pos (2 ^ bits)) }
+{
+    -greatest(bits) - 1
+}
+
+// ---- what is kept
+
 /// Whether an extension keeps all numbers of which a fact holds.
 pub(crate) fn keeps_all(extension: Extension, fact: Fact) -> bool
     ensures { result ≡ keeps_all extension fact }
 {
-    let below = may_hold(RelOp::Lt, fact, Fact::Fixed(extension.low));
-    let above = may_hold(RelOp::Gt, fact, Fact::Fixed(extension.high));
-    !below && !above
+    lies_between(extension.low, extension.high, fact)
+}
+
+/// Whether all numbers of which a fact holds lie from the one number to the other.
+fn lies_between(low: i64, high: i64, fact: Fact) -> bool
+    ensures { result ≡ lies_between low high fact }
+{
+    !may_hold(RelOp::Lt, fact, Fact::Fixed(low)) && !may_hold(RelOp::Gt, fact, Fact::Fixed(high))
 }
