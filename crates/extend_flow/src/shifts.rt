@@ -1,6 +1,6 @@
 // Shifts to the left, and the shifts back that extend a variable.
 ghost use Rattle.std.specs.Prelude.{◌≡◌, ◌-◌, ◌<◌, ◌^◌, neg_ℤ, pos, IfSome};
-ghost use Rattle.extend_flow.specs.Extensions.{IsDistance, extension_by, extension_held, is_left_shift, keeps_all, left_shift_of, lies_between, shift_of, signed_extension, unsigned_extension};
+ghost use Rattle.extend_flow.specs.Extensions.{IsDistance, extension_by, extension_held, shifts_variable, keeps_all, left_shift_of, lies_between, left_shift_on, signed_extension, unsigned_extension};
 
 use bounds::{Fact, may_hold};
 use held_assign::Picks;
@@ -21,16 +21,16 @@ pub(crate) struct LeftShift {
 pub(crate) struct PickShifts;
 
 impl Picks for PickShifts {
-    ghost picked = { λ picks v rhs. is_left_shift rhs };
+    ghost picked = { λ picks v rhs. shifts_variable rhs };
 
     fn picks(&self, _target: usize, rhs: Rhs) -> bool {
-        is_left_shift(rhs)
+        shifts_variable(rhs)
     }
 }
 
 /// Whether a right side is a shift of a variable to the left by a constant from 1 to 63.
-fn is_left_shift(rhs: Rhs) -> bool
-    ensures { result ≡ is_left_shift rhs }
+fn shifts_variable(rhs: Rhs) -> bool
+    ensures { result ≡ shifts_variable rhs }
 {
     match left_shift_of(rhs) {
         Some(_) => true,
@@ -47,15 +47,15 @@ fn left_shift_of(rhs: Rhs) -> Option<LeftShift>
         Rhs::Plain(_) => None,
         Rhs::Unary(_, _) => None,
         Rhs::Binary(op, a, b) => match op {
-            Op::Shl => shift_of(a, b),
+            Op::Shl => left_shift_on(a, b),
             _ => None,
         },
     }
 }
 
 /// The shift of an operand by another, where the first is a variable and the second a constant from 1 to 63.
-fn shift_of(a: Operand, b: Operand) -> Option<LeftShift>
-    ensures shift { result ≡ shift_of a b }
+fn left_shift_on(a: Operand, b: Operand) -> Option<LeftShift>
+    ensures shift { result ≡ left_shift_on a b }
     ensures far { IfSome result (λ shift. IsDistance shift.distance) }
 {
     match a {
@@ -121,8 +121,8 @@ fn signed_extension(shift: LeftShift) -> Extension
 {
     Extension {
         source: shift.source,
-        low: least(63 - shift.distance),
-        high: greatest(63 - shift.distance),
+        low: least_signed(63 - shift.distance),
+        high: most_unsigned(63 - shift.distance),
     }
 }
 
@@ -134,24 +134,24 @@ fn unsigned_extension(shift: LeftShift) -> Extension
     Extension {
         source: shift.source,
         low: 0,
-        high: greatest(64 - shift.distance),
+        high: most_unsigned(64 - shift.distance),
     }
 }
 
-/// The greatest number of so many bits.
-fn greatest(bits: u32) -> i64
+/// The greatest number of so many bits, without a sign.
+fn most_unsigned(bits: u32) -> i64
     requires { bits < 64 }
     ensures { result ≡ pos (2 ^ bits - 1) }
 {
     ((1u64 << bits) - 1) as i64
 }
 
-/// The least number of so many bits and a sign.
-fn least(bits: u32) -> i64
+/// The least number of so many bits and a sign before them.
+fn least_signed(bits: u32) -> i64
     requires { bits < 64 }
     ensures { result ≡ neg_ℤ (pos (2 ^ bits)) }
 {
-    -greatest(bits) - 1
+    -most_unsigned(bits) - 1
 }
 
 // ---- what is kept
