@@ -37,7 +37,7 @@ use Rattle.extend_flow.specs.declared.shifts.LeftShift.{LeftShift}
 use Rattle.extend_flow.specs.Extended.{AreExtended, IsHeldShift, extended_by, extended_node, extended_rhs, extended_where}
 use Rattle.extend_flow.specs.Extensions.{IsDistance, extension_of, keeps_all, signed_extension, unsigned_extension}
 use Rattle.extend_flow.specs.RunSteps.{cheaper_in_runs, same_in_runs}
-use Rattle.extend_flow.proofs.Extending.{Extends, ShiftsBack, extends, same_source}
+use Rattle.extend_flow.proofs.Undone.{Extends, ShiftsBack, extends, same_source}
 use Rattle.extend_flow.proofs.Numbers.{signed_kept, unsigned_kept}
 
 -- ---- values

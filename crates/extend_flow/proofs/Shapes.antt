@@ -24,7 +24,7 @@ use Rattle.bounds.specs.Edges.{fact_at}
 use Rattle.extend_flow.specs.declared.shifts.Extension.{Extension}
 use Rattle.extend_flow.specs.Extended.{AreExtended, extended_by, extended_node, extended_rhs, extended_where}
 use Rattle.extend_flow.specs.Extensions.{extension_of, keeps_all}
-use Rattle.extend_flow.proofs.Extending.{Extends, ShiftsBack, extends, same_source}
+use Rattle.extend_flow.proofs.Undone.{Extends, ShiftsBack, extends, same_source}
 
 -- ---- one node
 

@@ -22,5 +22,5 @@ pub record IsExtendedRhs (graph : GraphShape) (held : ℕ → Option Rhs) (n : �
   pub is : made ≡ extended_rhs held known rhs
 
 -- each new node is what the old one of its number becomes, with the shifts that hold before it by the rows
-abbrev pub AreMade : GraphShape → HeldAssigns → List Node → Type 0
-AreMade graph held nodes = (n : ℕ) → IsExtendedAt graph (held_at held n) n (slice_get nodes n)
+abbrev pub AreExtendedBy : GraphShape → HeldAssigns → List Node → Type 0
+AreExtendedBy graph held nodes = (n : ℕ) → IsExtendedAt graph (held_at held n) n (slice_get nodes n)

@@ -14,7 +14,7 @@ use Rattle.bounds.specs.Edges.{fact_at}
 use Rattle.bounds.specs.Facts.{BelowFact}
 use Rattle.cond_flow.specs.KnownBefore.{IsKnownBefore}
 use Rattle.extend_flow.specs.declared.shifts.Extension.{Extension}
-use Rattle.extend_flow.specs.Extensions.{extension_of, is_left_shift, keeps_all}
+use Rattle.extend_flow.specs.Extensions.{extension_of, shifts_variable, keeps_all}
 
 -- ---- what a node becomes, where `held` tells for each variable the shift to the left that it holds
 
@@ -49,7 +49,7 @@ extended_node held known (Return a) = Return a
 
 -- the shift to the left that a variable holds before node n, or none
 abbrev pub IsHeldShift : GraphShape → ℕ → ℕ → Option Rhs → Type 0
-IsHeldShift graph n v rhs = IsHeldRhs (λ x t. is_left_shift t) graph n v rhs
+IsHeldShift graph n v rhs = IsHeldRhs (λ x t. shifts_variable t) graph n v rhs
 
 -- this is what node n becomes, and none where there is no node: where it assigns an extension, by the least bounds of the
 -- variables before it

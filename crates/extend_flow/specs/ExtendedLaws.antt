@@ -13,7 +13,7 @@ use Rattle.bounds.specs.BoundRuleLaws.{bound_laws}
 use Rattle.cond_flow.specs.BecomingLaws.{known_is_one}
 use Rattle.extend_flow.specs.declared.shifts.Extension.{Extension}
 use Rattle.extend_flow.specs.Extended.{AreExtended, IsExtended, IsExtendedAt, extended_node, extended_where}
-use Rattle.extend_flow.specs.Extensions.{extension_of, is_left_shift}
+use Rattle.extend_flow.specs.Extensions.{extension_of, shifts_variable}
 
 -- where a node assigns no extension, what is known does not count; else the same is known
 node_is_one : (held : ℕ → Option Rhs) (a b : Option (List Fact)) (node : Node)
@@ -56,7 +56,7 @@ nodes_are_one graph nodes other p q = same_places nodes other (λ n. by n (slice
     by n (Some node) here =
         let lt : n < length graph.nodes = slice_get_within graph.nodes n node here in
         let same : p.held n ≡ q.held n =
-        fun_ext (λ v. held_rhs_is_one (λ x t. is_left_shift t) graph n v (p.held n v) (q.held n v) (p.is_held n v lt) (q.is_held n v lt)) in
+        fun_ext (λ v. held_rhs_is_one (λ x t. shifts_variable t) graph n v (p.held n v) (q.held n v) (p.is_held n v lt) (q.is_held n v lt)) in
         place_is_one graph (q.held n) n (slice_get nodes n) (slice_get other n) (subst (λ h. IsExtendedAt graph h n (slice_get nodes n)) same (p.nodes_are n)) (q.nodes_are n)
 
 -- a graph has one extended graph

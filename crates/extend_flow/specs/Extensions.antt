@@ -25,26 +25,26 @@ pub record IsDistance (distance : ℕ) : Type 0 where
   pub high : distance ≤ 63
 
 -- an operand shifted by another, where the first is a variable and the second such a constant
-abbrev pub shift_of : Operand → Operand → Option LeftShift
-shift_of (Const c) b = None
-shift_of (Var a) (Var y) = None
-shift_of (Var a) (Const c) =
+abbrev pub left_shift_on : Operand → Operand → Option LeftShift
+left_shift_on (Const c) b = None
+left_shift_on (Var a) (Var y) = None
+left_shift_on (Var a) (Const c) =
     if is_distance c then Some (record { source = a; distance = unsigned_abs c }) else None
 
 -- the same where the operator shifts to the left
-abbrev pub shift_by : Op → Operand → Operand → Option LeftShift
-shift_by Shl a b = shift_of a b
-shift_by _ a b = None
+abbrev pub left_shift_by : Op → Operand → Operand → Option LeftShift
+left_shift_by Shl a b = left_shift_on a b
+left_shift_by _ a b = None
 
 -- the shift to the left that a right side is
 abbrev pub left_shift_of : Rhs → Option LeftShift
 left_shift_of (Plain a) = None
 left_shift_of (Unary op a) = None
-left_shift_of (Binary op a b) = shift_by op a b
+left_shift_of (Binary op a b) = left_shift_by op a b
 
 -- the right side is a shift of a variable to the left by such a constant
-abbrev pub is_left_shift : Rhs → Bool
-is_left_shift rhs = is_some (left_shift_of rhs)
+abbrev pub shifts_variable : Rhs → Bool
+shifts_variable rhs = is_some (left_shift_of rhs)
 
 -- ---- extensions, where `held` tells for each variable the shift to the left that it holds
 
@@ -93,6 +93,12 @@ extension_of held (Plain a) = None
 extension_of held (Unary op a) = None
 extension_of held (Binary op a b) = extension_on held op a b
 
--- the extension keeps all numbers of which the fact holds
+-- ---- what is kept
+
+-- all numbers of which the fact holds lie from the one number to the other
+abbrev pub lies_between : ℤ → ℤ → Fact → Bool
+lies_between low high fact = int_le low (low_of fact) && int_le (high_of fact) high
+
+-- the extension keeps all these
 abbrev pub keeps_all : Extension → Fact → Bool
-keeps_all e fact = int_le e.low (low_of fact) && int_le (high_of fact) e.high
+keeps_all e fact = lies_between e.low e.high fact

@@ -13,7 +13,7 @@ use Rattle.flow_graph.specs.RunFrames.{IsRunFrame, frame_after, frame_after_tran
 -- ---- the frames to which runs come
 
 -- after so many steps, for which it has used these answers, a run stands at the frame, whatever it does next
-pub record Comes (machine : Machine) (f : Frame) : Type 0 where
+pub record RunsTo (machine : Machine) (f : Frame) : Type 0 where
   pub entry : CallEntry
   pub is_entry : IsEntry machine entry
   pub used : List Answer
@@ -25,8 +25,8 @@ pub record Comes (machine : Machine) (f : Frame) : Type 0 where
 
 module _ (machine : Machine) where
   -- so it is of the first frame
-  comes_first : (entry : CallEntry) → IsEntry machine entry → Comes machine (first_frame entry)
-  comes_first entry is = record {
+  runs_to_first : (entry : CallEntry) → IsEntry machine entry → RunsTo machine (first_frame entry)
+  runs_to_first entry is = record {
     entry = entry;
     is_entry = is;
     used = [];
@@ -38,10 +38,10 @@ module _ (machine : Machine) where
   }
 
   -- and of the frame after a step for which no answer is used
-  comes_next : (f next : Frame) → Comes machine f
+  runs_to_next : (f next : Frame) → RunsTo machine f
       → ((more : ℕ) (rest : List Answer) → frame_after machine.code (suc more) f rest ≡ frame_after machine.code more next rest)
-      → Comes machine next
-  comes_next f next comes leads = record {
+      → RunsTo machine next
+  runs_to_next f next comes leads = record {
     entry = comes.entry;
     is_entry = comes.is_entry;
     used = comes.used;
@@ -53,10 +53,10 @@ module _ (machine : Machine) where
   }
 
   -- and of the frame after a step that uses an answer
-  comes_answered : (f next : Frame) (a : Answer) → Comes machine f → IsCallAnswer machine.shared a
+  runs_to_answered : (f next : Frame) (a : Answer) → RunsTo machine f → IsCallAnswer machine.shared a
       → ((more : ℕ) (rest : List Answer) → frame_after machine.code (suc more) f (a ∷ rest) ≡ frame_after machine.code more next rest)
-      → Comes machine next
-  comes_answered f next a comes one_answer leads = record {
+      → RunsTo machine next
+  runs_to_answered f next a comes one_answer leads = record {
     entry = comes.entry;
     is_entry = comes.is_entry;
     used = comes.used ++ a ∷ [];
@@ -70,7 +70,7 @@ module _ (machine : Machine) where
   }
 
   -- it is a frame of a run
-  run_frame : (f : Frame) → Comes machine f → IsRunFrame machine f
+  run_frame : (f : Frame) → RunsTo machine f → IsRunFrame machine f
   run_frame f comes = record {
     entry = comes.entry;
     answers = comes.used ++ [];
@@ -90,18 +90,18 @@ module _ (first second : Machine) (receives : first.receives ≡ second.receives
   -- related, and a run of the first comes to its frame
   record InRun (f g : Frame) : Type 0 where
     related : S f g
-    comes : Comes first f
+    comes : RunsTo first f
 
   -- so are the frames after alike steps
-  still_in_run : (f : Frame) → Comes first f → (t t' : Transition) → first.code f ≡ t → HandsOver first.shared t → Alike S t t' → Alike InRun t t'
+  still_in_run : (f : Frame) → RunsTo first f → (t t' : Transition) → first.code f ≡ t → HandsOver first.shared t → Alike S t t' → Alike InRun t t'
   still_in_run f comes (Continues c next) (Continues d next') is over alike =
-      (alike.0, record { related = alike.1; comes = comes_next first f next comes (λ more rest. ap (λ t. frame_after_transition (frame_after first.code more) t rest) is) })
+      (alike.0, record { related = alike.1; comes = runs_to_next first f next comes (λ more rest. ap (λ t. frame_after_transition (frame_after first.code more) t rest) is) })
   still_in_run f comes (Prints v next) (Prints w next') is over alike =
-      (alike.0, record { related = alike.1; comes = comes_next first f next comes (λ more rest. ap (λ t. frame_after_transition (frame_after first.code more) t rest) is) })
+      (alike.0, record { related = alike.1; comes = runs_to_next first f next comes (λ more rest. ap (λ t. frame_after_transition (frame_after first.code more) t rest) is) })
   still_in_run f comes (Calls unit entry into next) (Calls unit' entry' into' next') is over alike =
       (alike.0, alike.1, λ a one. record {
         related = alike.2 a one;
-        comes = comes_answered first f (resumed into a next) a comes (subst (λ n. IsCallAnswer n a) over one) (λ more rest. ap (λ t. frame_after_transition (frame_after first.code more) t (a ∷ rest)) is);
+        comes = runs_to_answered first f (resumed into a next) a comes (subst (λ n. IsCallAnswer n a) over one) (λ more rest. ap (λ t. frame_after_transition (frame_after first.code more) t (a ∷ rest)) is);
       })
   still_in_run f comes (Returns a) (Returns b) is over alike = alike
   still_in_run f comes (Traps k c) (Traps l d) is over alike = alike
@@ -112,7 +112,7 @@ module _ (first second : Machine) (receives : first.receives ≡ second.receives
     receives = receives;
     shared = shared;
     hands = hands;
-    starts = λ entry is. record { related = starts entry is; comes = comes_first first entry is };
+    starts = λ entry is. record { related = starts entry is; comes = runs_to_first first entry is };
     steps = λ f g in_run. still_in_run f in_run.comes (first.code f) (second.code g) refl (hands f) (steps f g (run_frame first f in_run.comes) in_run.related);
   }
 

@@ -6,7 +6,7 @@ ghost use Rattle.bounds.specs.Edges.{fact_at};
 ghost use Rattle.bounds.specs.Facts.{BelowFact};
 ghost use Rattle.cond_flow.specs.KnownBefore.{AreStatesOf};
 ghost use Rattle.held_assign.specs.Rows.{IsLookup, held_at};
-ghost use Rattle.extend_flow.specs.ByRows.{AreMade, IsExtendedRhs};
+ghost use Rattle.extend_flow.specs.ByRows.{AreExtendedBy, IsExtendedRhs};
 ghost use Rattle.extend_flow.specs.Extended.{IsExtendedAt, extended_by};
 ghost use Rattle.extend_flow.specs.Extensions.{extension_of, extension_on};
 
@@ -18,18 +18,33 @@ use held_assign::HeldAssigns;
 use mir_base::{Memory, Op, Operand, Rhs};
 use std::alloc::Global;
 
-/// What the nodes of a graph become, by the shifts that hold.
+/// What the nodes of a graph become, by the shifts that hold. Where the graph has none, the bounds are not looked for.
 pub(crate) fn nodes_by_held(
     alloc: Global,
     graph: &Graph,
     held: &HeldAssigns,
 ) -> Result<Vec<Node>, Memory>
     requires { IsLookup (length graph.now.vars) (length graph.now.nodes) held.now }
-    ensures { IfOk result (λ nodes. AreMade graph.now held.now nodes.items) }
+    ensures { IfOk result (λ nodes. AreExtendedBy graph.now held.now nodes.items) }
 {
+    if held.table.len() == 0 {
+        let same = copied(alloc, graph.nodes())?;
+        return Ok(same);
+    }
     let states = LeastStates::<Fact>::of(alloc, graph)?;
     let nodes = nodes_by_states(alloc, graph, held, &states)?;
     Ok(nodes)
+}
+
+/// A copy of the nodes.
+fn copied(alloc: Global, nodes: &[Node]) -> Result<Vec<Node>, Memory>
+    ensures { IfOk result (λ copied. copied.items ≡ nodes.now) }
+{
+    let mut copied = Vec::with_capacity(alloc, nodes.len())?;
+    for node in nodes {
+        copied.push(node.clone()?)?;
+    }
+    Ok(copied)
 }
 
 /// The same by the least bounds too.
@@ -41,7 +56,7 @@ fn nodes_by_states(
 ) -> Result<Vec<Node>, Memory>
     requires lookup { IsLookup (length graph.now.vars) (length graph.now.nodes) held.now }
     requires states { AreStatesOf BelowFact bound_rules graph.now states.now }
-    ensures { IfOk result (λ nodes. AreMade graph.now held.now nodes.items) }
+    ensures { IfOk result (λ nodes. AreExtendedBy graph.now held.now nodes.items) }
 {
     let old = graph.nodes();
     let mut nodes = Vec::with_capacity(alloc, old.len())?;

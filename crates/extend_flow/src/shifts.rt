@@ -1,6 +1,6 @@
 // Shifts to the left, and the shifts back that extend a variable.
-ghost use Rattle.std.specs.Prelude.{◌≡◌, ◌-◌, ◌<◌, ◌^◌, pos, IfSome};
-ghost use Rattle.extend_flow.specs.Extensions.{IsDistance, extension_by, extension_held, is_left_shift, keeps_all, left_shift_of, shift_of, signed_extension, unsigned_extension};
+ghost use Rattle.std.specs.Prelude.{◌≡◌, ◌-◌, ◌<◌, ◌^◌, neg_ℤ, pos, IfSome};
+ghost use Rattle.extend_flow.specs.Extensions.{IsDistance, extension_by, extension_held, shifts_variable, keeps_all, left_shift_of, lies_between, left_shift_on, signed_extension, unsigned_extension};
 
 use bounds::{Fact, may_hold};
 use held_assign::Picks;
@@ -21,16 +21,16 @@ pub(crate) struct LeftShift {
 pub(crate) struct PickShifts;
 
 impl Picks for PickShifts {
-    ghost picked = { λ picks v rhs. is_left_shift rhs };
+    ghost picked = { λ picks v rhs. shifts_variable rhs };
 
     fn picks(&self, _target: usize, rhs: Rhs) -> bool {
-        is_left_shift(rhs)
+        shifts_variable(rhs)
     }
 }
 
 /// Whether a right side is a shift of a variable to the left by a constant from 1 to 63.
-fn is_left_shift(rhs: Rhs) -> bool
-    ensures { result ≡ is_left_shift rhs }
+fn shifts_variable(rhs: Rhs) -> bool
+    ensures { result ≡ shifts_variable rhs }
 {
     match left_shift_of(rhs) {
         Some(_) => true,
@@ -47,15 +47,15 @@ fn left_shift_of(rhs: Rhs) -> Option<LeftShift>
         Rhs::Plain(_) => None,
         Rhs::Unary(_, _) => None,
         Rhs::Binary(op, a, b) => match op {
-            Op::Shl => shift_of(a, b),
+            Op::Shl => left_shift_on(a, b),
             _ => None,
         },
     }
 }
 
 /// The shift of an operand by another, where the first is a variable and the second a constant from 1 to 63.
-fn shift_of(a: Operand, b: Operand) -> Option<LeftShift>
-    ensures shift { result ≡ shift_of a b }
+fn left_shift_on(a: Operand, b: Operand) -> Option<LeftShift>
+    ensures shift { result ≡ left_shift_on a b }
     ensures far { IfSome result (λ shift. IsDistance shift.distance) }
 {
     match a {
@@ -119,11 +119,10 @@ fn signed_extension(shift: LeftShift) -> Extension
     requires { IsDistance shift.distance }
     ensures { result ≡ signed_extension shift }
 {
-    let high = greatest(63 - shift.distance);
     Extension {
         source: shift.source,
-        low: -high - 1,
-        high,
+        low: least_signed(63 - shift.distance),
+        high: most_unsigned(63 - shift.distance),
     }
 }
 
@@ -135,23 +134,38 @@ fn unsigned_extension(shift: LeftShift) -> Extension
     Extension {
         source: shift.source,
         low: 0,
-        high: greatest(64 - shift.distance),
+        high: most_unsigned(64 - shift.distance),
     }
 }
 
-/// The greatest number of so many bits.
-fn greatest(bits: u32) -> i64
+/// The greatest number of so many bits, without a sign.
+fn most_unsigned(bits: u32) -> i64
     requires { bits < 64 }
     ensures { result ≡ pos (2 ^ bits - 1) }
 {
     ((1u64 << bits) - 1) as i64
 }
 
+/// The least number of so many bits and a sign before them.
+fn least_signed(bits: u32) -> i64
+    requires { bits < 64 }
+    ensures { result ≡ neg_ℤ (pos (2 ^ bits)) }
+{
+    -most_unsigned(bits) - 1
+}
+
+// ---- what is kept
+
 /// Whether an extension keeps all numbers of which a fact holds.
 pub(crate) fn keeps_all(extension: Extension, fact: Fact) -> bool
     ensures { result ≡ keeps_all extension fact }
 {
-    let below = may_hold(RelOp::Lt, fact, Fact::Fixed(extension.low));
-    let above = may_hold(RelOp::Gt, fact, Fact::Fixed(extension.high));
-    !below && !above
+    lies_between(extension.low, extension.high, fact)
+}
+
+/// Whether all numbers of which a fact holds lie from the one number to the other.
+fn lies_between(low: i64, high: i64, fact: Fact) -> bool
+    ensures { result ≡ lies_between low high fact }
+{
+    !may_hold(RelOp::Lt, fact, Fact::Fixed(low)) && !may_hold(RelOp::Gt, fact, Fact::Fixed(high))
 }

@@ -13,7 +13,7 @@ use Rattle.mir_base.specs.declared.instructions.Rhs.{Rhs}
 use Rattle.mir_base.specs.declared.instructions.Rhs.TheVariants.{Plain, Unary, Binary}
 use Rattle.extend_flow.specs.declared.shifts.Extension.{Extension}
 use Rattle.extend_flow.specs.declared.shifts.LeftShift.{LeftShift}
-use Rattle.extend_flow.specs.Extensions.{IsDistance, extension_back, extension_by, extension_held, extension_of, extension_on, is_distance, left_shift_of, shift_by, shift_of, signed_extension, unsigned_extension}
+use Rattle.extend_flow.specs.Extensions.{IsDistance, extension_back, extension_by, extension_held, extension_of, extension_on, is_distance, left_shift_of, left_shift_by, left_shift_on, signed_extension, unsigned_extension}
 
 -- ---- shifts to the left
 
@@ -34,10 +34,10 @@ pub record IsLeftShift (rhs : Rhs) (shift : LeftShift) : Type 0 where
   pub far : IsDistance shift.distance
 
 -- an operand shifted by another
-shift_of_is : (a b : Operand) (shift : LeftShift) → shift_of a b ≡ Some shift → IsLeftShift (Binary Shl a b) shift
-shift_of_is (Const c) b shift e = cc
-shift_of_is (Var a) (Var y) shift e = cc
-shift_of_is (Var a) (Const c) shift e = by (is_distance c) refl e
+left_shift_on_is : (a b : Operand) (shift : LeftShift) → left_shift_on a b ≡ Some shift → IsLeftShift (Binary Shl a b) shift
+left_shift_on_is (Const c) b shift e = cc
+left_shift_on_is (Var a) (Var y) shift e = cc
+left_shift_on_is (Var a) (Const c) shift e = by (is_distance c) refl e
   where
     by : (t : Bool) → is_distance c ≡ t → (if t then Some (record { source = a; distance = unsigned_abs c }) else None) ≡ Some shift
         → IsLeftShift (Binary Shl (Var a) (Const c)) shift
@@ -47,32 +47,32 @@ shift_of_is (Var a) (Const c) shift e = by (is_distance c) refl e
     by false far f = cc
 
 -- by any operator
-shift_by_is : (op : Op) (a b : Operand) (shift : LeftShift) → shift_by op a b ≡ Some shift → IsLeftShift (Binary op a b) shift
-shift_by_is Add a b shift e = cc
-shift_by_is Sub a b shift e = cc
-shift_by_is Mul a b shift e = cc
-shift_by_is Div a b shift e = cc
-shift_by_is Mod a b shift e = cc
-shift_by_is Min a b shift e = cc
-shift_by_is Max a b shift e = cc
-shift_by_is Eq a b shift e = cc
-shift_by_is Ne a b shift e = cc
-shift_by_is Lt a b shift e = cc
-shift_by_is Le a b shift e = cc
-shift_by_is Gt a b shift e = cc
-shift_by_is Ge a b shift e = cc
-shift_by_is Shl a b shift e = shift_of_is a b shift e
-shift_by_is Shr a b shift e = cc
-shift_by_is Shra a b shift e = cc
-shift_by_is And a b shift e = cc
-shift_by_is Or a b shift e = cc
-shift_by_is Xor a b shift e = cc
+left_shift_by_is : (op : Op) (a b : Operand) (shift : LeftShift) → left_shift_by op a b ≡ Some shift → IsLeftShift (Binary op a b) shift
+left_shift_by_is Add a b shift e = cc
+left_shift_by_is Sub a b shift e = cc
+left_shift_by_is Mul a b shift e = cc
+left_shift_by_is Div a b shift e = cc
+left_shift_by_is Mod a b shift e = cc
+left_shift_by_is Min a b shift e = cc
+left_shift_by_is Max a b shift e = cc
+left_shift_by_is Eq a b shift e = cc
+left_shift_by_is Ne a b shift e = cc
+left_shift_by_is Lt a b shift e = cc
+left_shift_by_is Le a b shift e = cc
+left_shift_by_is Gt a b shift e = cc
+left_shift_by_is Ge a b shift e = cc
+left_shift_by_is Shl a b shift e = left_shift_on_is a b shift e
+left_shift_by_is Shr a b shift e = cc
+left_shift_by_is Shra a b shift e = cc
+left_shift_by_is And a b shift e = cc
+left_shift_by_is Or a b shift e = cc
+left_shift_by_is Xor a b shift e = cc
 
 -- any right side
 pub left_shift_is : (rhs : Rhs) (shift : LeftShift) → left_shift_of rhs ≡ Some shift → IsLeftShift rhs shift
 left_shift_is (Plain a) shift e = cc
 left_shift_is (Unary op a) shift e = cc
-left_shift_is (Binary op a b) shift e = shift_by_is op a b shift e
+left_shift_is (Binary op a b) shift e = left_shift_by_is op a b shift e
 
 -- ---- shifts back
 
