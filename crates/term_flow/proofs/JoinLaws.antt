@@ -2,10 +2,10 @@
 use Rattle.std.proofs.Common.{◌≡◌, ℕ, ◌≤◌, Bool, true, false, not, if◌then◌else◌, ℤ, pos, List, [], ◌∷◌, Option, Some, None, option_map, refl, sym, ap, ◌∙◌, subst, arith, le_refl, FitsSigned, w64, int_lt, int_le}
 use Rattle.std.specs.Ordering.{int_eq}
 use Rattle.std.proofs.lemmas.Bool.Decides.{Decides-int_eq}
-use Rattle.std.proofs.lemmas.Int.{ints, int_wrap_fits}
+use Rattle.std.proofs.lemmas.Int.{ints}
 use Rattle.std.proofs.lemmas.Option.{same_Some}
 use Rattle.mir_base.specs.declared.operators.Op.{Op}
-use Rattle.mir_base.specs.declared.operators.Op.TheVariants.{Add, Sub, Mul, Div, Mod, Min, Max, Eq, Ne, Lt, Le, Gt, Ge, Shl, Shr, Shra, And, Or, Xor}
+use Rattle.mir_base.specs.declared.operators.Op.TheVariants.{Eq, Ne, Lt, Le, Gt, Ge}
 use Rattle.mir_base.specs.declared.operators.UnOp.TheVariants.{Neg, Not}
 use Rattle.mir_base.specs.declared.instructions.Operand.{Operand}
 use Rattle.mir_base.specs.declared.instructions.Operand.TheVariants.{Var, Const}
@@ -14,13 +14,12 @@ use Rattle.mir_base.specs.declared.instructions.Rhs.TheVariants.{Plain, Unary, B
 use Rattle.mir_base.specs.Expressions.{rhs_count, rhs_traps, rhs_value}
 use Rattle.mir_base.specs.Frames.{Values}
 use Rattle.mir_base.specs.FrameLaws.{ValuesFit}
-use Rattle.mir_base.specs.NumberLaws.{zero_fits}
-use Rattle.mir_base.specs.Numbers.{is_dividing, truth, value_of_op, wrapped}
+use Rattle.mir_base.specs.Numbers.{is_dividing, truth, value_of_op}
 use Rattle.mir_base.specs.Shapes.{operand_vars, rhs_vars}
 use Rattle.mir_base.specs.Units.{operand_value}
 use Rattle.term_flow.specs.declared.reading.ByConstant.{ByConstant}
-use Rattle.term_flow.specs.Terms.{applied, comparison, denied_op, denied_rhs, first_of_both, joined_to, of_truth, of_zero, over_by, over_read, read_rhs, rhs_by, rhs_from}
-use Rattle.term_flow.proofs.TermLaws.{IfOver, IsOver, Reads, over_holds, reads, writes, zero_is}
+use Rattle.term_flow.specs.Terms.{applied, denied_op, denied_rhs, first_of_both, joined_to, of_truth, of_zero, over_by, over_read, read_rhs, rhs_by, rhs_from}
+use Rattle.term_flow.proofs.TermLaws.{IfOver, over_holds, reads, writes, zero_is}
 
 -- ---- comparisons
 

@@ -1,5 +1,5 @@
 -- The termed nodes do what the nodes of the graph do, and count no more, where what holds agrees.
-use Rattle.std.proofs.Common.{◌≡◌, ℕ, ◌<◌, ◌≤◌, Bool, true, false, if◌then◌else◌, List, ◌∷◌, length, slice_get, ℤ, Option, Some, None, option_map, refl, sym, ap, ◌∙◌, subst, arith, le_refl}
+use Rattle.std.proofs.Common.{◌≡◌, ℕ, ◌<◌, ◌≤◌, Bool, true, false, if◌then◌else◌, List, length, slice_get, ℤ, Option, Some, None, option_map, refl, sym, ap, ◌∙◌, subst, arith, le_refl}
 use Rattle.std.specs.Option.{unwrap_or}
 use Rattle.std.proofs.lemmas.Option.{slice_get_within}
 use Rattle.mir_base.specs.declared.instructions.Rhs.{Rhs}
@@ -7,7 +7,7 @@ use Rattle.mir_base.specs.declared.operators.Trap.TheVariants.{ZeroDivisor}
 use Rattle.mir_base.specs.ExpressionLaws.{assign_is}
 use Rattle.mir_base.specs.Expressions.{rhs_count, rhs_traps, rhs_value}
 use Rattle.mir_base.specs.FrameLaws.{ValuesFit}
-use Rattle.mir_base.specs.Frames.{Frame, Transition, Continues, Traps, Values}
+use Rattle.mir_base.specs.Frames.{Frame, Continues, Traps, Values}
 use Rattle.mir_base.specs.Units.{assign_transition, assigned}
 use Rattle.flow_graph.specs.declared.nodes.Node.{Node}
 use Rattle.flow_graph.specs.declared.nodes.Node.TheVariants.{Start, Skip, Assign, Print, Guard, Call, Test, Return}

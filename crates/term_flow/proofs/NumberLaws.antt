@@ -1,5 +1,5 @@
 -- Operators with constants on one another, on all signed 64-bit numbers.
-use Rattle.std.proofs.Common.{◌≡◌, ℕ, zero, suc, ◌+◌, ◌*◌, ◌/◌, ◌%◌, ◌^◌, ◌<◌, ◌≤◌, min, inl, inr, Bool, true, false, ℤ, pos, negsuc, neg_ℤ, ◌+ℤ◌, ◌-ℤ◌, ◌*ℤ◌, refl, sym, ap, ◌∙◌, arith, FitsSigned, w64, to_z, of_z, to_z-of_z, pow_pos, pow-add, mul_assoc, bit_and, bit_or, bit_xor, div-le_self}
+use Rattle.std.proofs.Common.{◌≡◌, ℕ, zero, suc, ◌+◌, ◌*◌, ◌/◌, ◌%◌, ◌^◌, ◌<◌, ◌≤◌, min, inl, inr, ℤ, pos, negsuc, neg_ℤ, ◌+ℤ◌, ◌-ℤ◌, ◌*ℤ◌, refl, sym, ap, ◌∙◌, arith, FitsSigned, w64, to_z, of_z, to_z-of_z, pow_pos, pow-add, mul_assoc, bit_and, bit_or, bit_xor, div-le_self}
 use Rattle.std.specs.Int.{int_wrap, int_div_euclid, int_min, int_max}
 use Rattle.std.specs.Int.Bits.{and_lt, or_lt, xor_lt, xor_assoc, xor_self, xor_zero_r}
 use Rattle.std.specs.Ordering.{int_eq}

@@ -1,9 +1,8 @@
 -- Nodes that do, at each frame of a run of a graph, what the graph does and count no more, make a graph that does the same.
 -- At such a frame all values are signed 64-bit numbers.
-use Rattle.std.proofs.Common.{◌≡◌, ℕ, zero, suc, ◌+◌, ◌≤◌, Bool, true, false, if◌then◌else◌, List, [], ◌∷◌, ◌++◌, length, slice_get, slice_index_or, ℤ, pos, Option, Some, None, refl, sym, ap, ◌∙◌, subst, arith, le_refl, zero-add, append_assoc}
+use Rattle.std.proofs.Common.{◌≡◌, ℕ, suc, ◌+◌, Bool, true, false, if◌then◌else◌, List, [], ◌∷◌, ◌++◌, slice_get, slice_index_or, ℤ, pos, Option, Some, None, refl, sym, ap, ◌∙◌, subst, arith, le_refl, zero-add, append_assoc}
 use Rattle.std.proofs.lemmas.List.{append-nil}
 use Rattle.std.proofs.lemmas.List.Elements.{All-append, All-cons, All-nil}
-use Rattle.mir_base.specs.declared.instructions.Rhs.{Rhs}
 use Rattle.mir_base.specs.declared.operators.Trap.TheVariants.{ZeroDivisor, Raised}
 use Rattle.mir_base.specs.ExpressionLaws.{assign_is}
 use Rattle.mir_base.specs.Expressions.{rhs_count, rhs_traps, rhs_value}

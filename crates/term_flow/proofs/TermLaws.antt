@@ -1,14 +1,14 @@
 -- What right sides of a variable and a constant give, and what two of them on one another do, as the table says.
-use Rattle.std.proofs.Common.{rules, ◌≡◌, ℕ, ◌+◌, ◌/◌, ◌^◌, ◌≤◌, min, Bool, true, false, not, if◌then◌else◌, nat_le, ℤ, pos, ◌*ℤ◌, neg_ℤ, List, [], ◌∷◌, Option, Some, None, option_map, refl, sym, ap, ◌∙◌, subst, arith, le_refl, FitsSigned, w64, int_lt, int_le}
+use Rattle.std.proofs.Common.{rules, ◌≡◌, ℕ, ◌/◌, ◌^◌, ◌≤◌, min, Bool, true, false, not, if◌then◌else◌, nat_le, ℤ, pos, ◌*ℤ◌, neg_ℤ, [], ◌∷◌, Option, Some, None, option_map, refl, sym, ap, ◌∙◌, subst, arith, le_refl, FitsSigned, w64}
 use Rattle.std.specs.Int.{int_div_euclid}
 use Rattle.std.specs.Ordering.{int_eq}
 use Rattle.std.proofs.Math.IntN.{+ℤ_comm, *ℤ_comm}
-use Rattle.std.proofs.lemmas.Bool.{cases_Bool, leb-true}
+use Rattle.std.proofs.lemmas.Bool.{leb-true}
 use Rattle.std.proofs.lemmas.Bool.Decides.{Decides-int_eq}
-use Rattle.std.proofs.lemmas.Int.{ints, int_wrap_fits}
+use Rattle.std.proofs.lemmas.Int.{int_wrap_fits}
 use Rattle.std.proofs.lemmas.Nat.{and_comm, or_comm, xor_comm}
 use Rattle.mir_base.specs.declared.operators.Op.{Op}
-use Rattle.mir_base.specs.declared.operators.Op.TheVariants.{Add, Sub, Mul, Div, Mod, Min, Max, Eq, Ne, Lt, Le, Gt, Ge, Shl, Shr, Shra, And, Or, Xor}
+use Rattle.mir_base.specs.declared.operators.Op.TheVariants.{Add, Sub, Mul, Min, Max, Eq, Ne, Shl, Shr, Shra, And, Or, Xor}
 use Rattle.mir_base.specs.declared.operators.UnOp.TheVariants.{Neg, Not}
 use Rattle.mir_base.specs.declared.instructions.Operand.{Operand}
 use Rattle.mir_base.specs.declared.instructions.Operand.TheVariants.{Var, Const}

@@ -10,14 +10,18 @@ use held_assign::HeldAssigns;
 use mir_base::Memory;
 use std::alloc::Global;
 
-/// The graph in which an operator with a constant, on a variable that holds what another made of a variable a, is one
-/// operator on a. Only right sides of `Assign` nodes change. Where `t <- a + k`, `a - k` or `k - a` with a constant k
-/// holds before the node, a sum or a difference of t and a constant becomes `a + m` or `m - a`, and `a` where m is 0; a
-/// comparison of t with a constant by `=` or `!=` becomes one of a. Where t holds a product by a constant, or what
-/// `and`, `or`, `xor`, `min`, `max` or a shift makes of a and a constant, the same operator with a constant on t becomes
-/// one on a; two shifts only where they go at most 63 places together, but those with sign always, and `xor` by 0 is a.
-/// `-t` counts as `0 - t`, `!t` as `t = 0`, and `=` and `!=` of an exclusive or with a constant become those of a. Where
-/// t holds a comparison, `t != 0` becomes it, and `t = 0` the contrary one.
+/// The graph in which an operator with a constant, on a variable that holds what another one made of a variable a, is
+/// one operator on a. Only right sides of `Assign` nodes change, and only those that read a variable t and a constant;
+/// `-t` counts as `0 - t`, and `!t` as `t = 0`. By the right side that t holds before the node:
+///
+/// - t is `a + k`, `a - k`, `k - a` or `-a`: a sum or difference of t and a constant becomes `a + m` or `m - a`, and a
+///   where it is `a + 0`; `t = c` and `t != c` become `a = m` and `a != m`.
+/// - t is `a xor k`: `t xor c` becomes `a xor m`, and a where m is 0; `t = c` and `t != c` become `a = m` and `a != m`.
+/// - t is a product of a and k, or what `and`, `or`, `min` or `max` makes of them: the same operator with a constant on
+///   t becomes one on a.
+/// - t is a shift of a by a constant: the same shift of t by a constant becomes one of a, where both together go at most
+///   63 places; a shift to the right with the sign always does, and then goes 63 places at most.
+/// - t is a comparison, a relation or `!`: `t != 0` becomes it, and `t = 0` the one that holds where it does not.
 ///
 /// An assignment `v <- rhs` holds before a node where it does not read v and on every path from Start to the node there
 /// is, before the node, such an assignment after which, before the node, no node assigns v or a variable of rhs; a call

@@ -1,5 +1,5 @@
-//! Chains of operators with constants. In goes a graph; out comes the graph in which an assignment `x <- t - 1`, where t
-//! holds `a + 1`, is one of a alone, so that t may be dead.
+//! Chains of operators with constants. In goes a graph; out comes the graph in which an assignment `x <- t - 1`, where
+//! t holds `a + 3`, is `x <- a + 2`, so that t may be dead.
 //!
 //! The theorem that this crate carries is the contract of `terms`: the answer is the exact graph, there is no other, it
 //! does the same as the graph that goes in, and it evaluates no more operators.

@@ -28,7 +28,11 @@ pub(crate) fn both_far(k: i64, c: i64) -> u8
 pub(crate) fn within_word(far: u8) -> Option<i64>
     ensures { result ≡ within_word far }
 {
-    if far <= 63 { Some(i64::from(far)) } else { None }
+    if far <= 63 {
+        Some(i64::from(far))
+    } else {
+        None
+    }
 }
 
 /// How far a shift by this number goes.

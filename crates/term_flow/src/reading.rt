@@ -91,15 +91,8 @@ fn left_read(op: Op, c: i64, x: usize) -> Option<ByConstant>
         | Op::And
         | Op::Or
         | Op::Xor => Some(with_constant(op, x, c)),
-        Op::Div
-        | Op::Mod
-        | Op::Lt
-        | Op::Le
-        | Op::Gt
-        | Op::Ge
-        | Op::Shl
-        | Op::Shr
-        | Op::Shra => None,
+        Op::Div | Op::Mod | Op::Lt | Op::Le | Op::Gt | Op::Ge | Op::Shl | Op::Shr | Op::Shra =>
+            None,
     }
 }
 

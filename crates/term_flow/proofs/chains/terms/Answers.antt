@@ -12,7 +12,7 @@ use Rattle.held_assign.specs.Rows.{held_at}
 use Rattle.term_flow.specs.Termed.{AreTermed, IsTermed}
 use Rattle.term_flow.specs.TermedLaws.{termed_is_one}
 use Rattle.term_flow.proofs.Meaning.{code_cheap}
-use Rattle.term_flow.proofs.RunLaws.{AsCheap, cheaper_in_runs, same_in_runs}
+use Rattle.term_flow.proofs.RunLaws.{cheaper_in_runs, same_in_runs}
 use Rattle.term_flow.proofs.Shapes.{termed_calls, termed_divides, termed_split, termed_succs}
 use Rattle.term_flow.proofs.Whole.{all_reached, termed_can_make}
 use Rattle.term_flow.proofs.chains.terms.Goals as goal
