@@ -1,13 +1,13 @@
 -- One step of the loops: one argument more of a call that is noted, and one received variable more.
-use Rattle.std.proofs.Common.{◌≡◌, ◌↔◌, inl, inr, ℕ, zero, suc, ◌+◌, ◌<◌, ◌≤◌, List, [], ◌∷◌, ◌++◌, append_assoc, drop, length, map, slice_get, slice_set, ℤ, Option, Some, None, refl, sym, ap, ◌∙◌, subst, arith}
+use Rattle.std.proofs.Common.{◌≡◌, ◌↔◌, inl, inr, ℕ, zero, suc, ◌+◌, ◌<◌, ◌≤◌, List, [], ◌∷◌, ◌++◌, append_assoc, drop, length, map, slice_get, slice_index_or, slice_set, ℤ, Option, Some, None, refl, sym, ap, ◌∙◌, subst, arith}
 use Rattle.std.proofs.lemmas.Bool.{cases_eq, cases_lt}
-use Rattle.std.proofs.lemmas.List.{length-set}
-use Rattle.std.proofs.lemmas.Option.{slice_get_within}
+use Rattle.std.proofs.lemmas.List.{drop_all, get_or_past, length-set}
+use Rattle.std.proofs.lemmas.Option.{slice_get-get_or, slice_get_within}
 use Rattle.mir_base.specs.declared.instructions.Operand.{Operand}
 use Rattle.mir_base.specs.declared.instructions.Operand.TheVariants.{Const}
-use Rattle.mir_base.specs.declared.instructions.Rhs.TheVariants.{Plain}
 use Rattle.flow_graph.specs.ListLaws.{drop_at, set_elsewhere, set_here}
-use Rattle.constant_args.specs.ConstantArguments.{constant_puts}
+use Rattle.graph_edit.specs.Insertions.{Insertion}
+use Rattle.constant_args.specs.ConstantArguments.{constant_put, constant_puts}
 use Rattle.constant_args.specs.Gathered.{Agree, constant_of}
 use Rattle.constant_args.proofs.Constants.{puts_none}
 
@@ -61,36 +61,21 @@ constants_next now operands i operand all at is =
 
 -- ---- assignments
 
--- a received variable with a constant is the next to be assigned
-pub puts_next : (received : List ℕ) (constants : List (Option ℤ)) (i x : ℕ) (c : ℤ) → slice_get received i ≡ Some x → slice_get constants i ≡ Some (Some c)
-    → constant_puts (drop i received) (drop i constants) ≡ record { var = x; rhs = Plain (Const c) } ∷ constant_puts (drop (i + 1) received) (drop (i + 1) constants)
-puts_next received constants i x c at known =
-    ap (λ l. constant_puts l (drop i constants)) (drop_at received i x at) ∙ ap (constant_puts (x ∷ drop (i + 1) received)) (drop_at constants i (Some c) known)
+-- those from one received variable on
+pub puts_next : (received : List ℕ) (constants : List (Option ℤ)) (i x : ℕ) → slice_get received i ≡ Some x
+    → constant_puts (drop i received) (drop i constants) ≡ constant_put x (slice_index_or constants i None) ++ constant_puts (drop (i + 1) received) (drop (i + 1) constants)
+puts_next received constants i x at = ap (λ l. constant_puts l (drop i constants)) (drop_at received i x at) ∙ elim (cases_lt i (length constants)) [
+  | inl lt ↦ ap (constant_puts (x ∷ drop (i + 1) received)) (drop_at constants i (slice_index_or constants i None) (slice_get-get_or constants i None lt))
+  | inr ge ↦
+      let none = drop_all i constants ge in
+      let none' = drop_all (i + 1) constants (omega (arith, ge)) in
+      ap (constant_puts (x ∷ drop (i + 1) received)) none ∙ sym (ap (λ k. constant_put x k ++ constant_puts (drop (i + 1) received) (drop (i + 1) constants)) (get_or_past constants i None ge) ∙ ap (constant_puts (drop (i + 1) received)) none' ∙ puts_none (drop (i + 1) received))
+]
 
--- one with none is passed
-pub puts_passed : (received : List ℕ) (constants : List (Option ℤ)) (i x : ℕ) → slice_get received i ≡ Some x → slice_get constants i ≡ Some None
-    → constant_puts (drop i received) (drop i constants) ≡ constant_puts (drop (i + 1) received) (drop (i + 1) constants)
-puts_passed received constants i x at known =
-    ap (λ l. constant_puts l (drop i constants)) (drop_at received i x at) ∙ ap (constant_puts (x ∷ drop (i + 1) received)) (drop_at constants i None known)
-
--- nothing is left behind the end of a list
-past_drop : {A : Type 0} (xs : List A) (i : ℕ) → slice_get xs i ≡ None → drop i xs ≡ []
-past_drop [] zero past = refl
-past_drop [] (suc i) past = refl
-past_drop (x ∷ xs) zero past = cc
-past_drop (x ∷ xs) (suc i) past = past_drop xs i past
-
--- nor behind what follows
-past_next : {A : Type 0} (xs : List A) (i : ℕ) → slice_get xs i ≡ None → drop (i + 1) xs ≡ []
-past_next [] i past = past_drop [] (i + 1) refl
-past_next (x ∷ xs) zero past = cc
-past_next (x ∷ xs) (suc i) past =
-    let next : suc i + 1 ≡ suc (i + 1) = omega arith in
-    ap (λ n. drop n (x ∷ xs)) next ∙ past_next xs i past
-
--- so is one behind the last constant
-pub puts_past : (received : List ℕ) (constants : List (Option ℤ)) (i : ℕ) → slice_get constants i ≡ None
-    → constant_puts (drop i received) (drop i constants) ≡ constant_puts (drop (i + 1) received) (drop (i + 1) constants)
-puts_past received constants i past =
-    ap (constant_puts (drop i received)) (past_drop constants i past) ∙ puts_none (drop i received)
-    ∙ sym (ap (constant_puts (drop (i + 1) received)) (past_next constants i past) ∙ puts_none (drop (i + 1) received))
+-- one step of the loop
+pub puts_more : (received : List ℕ) (constants : List (Option ℤ)) (i x : ℕ) (now new all : List Insertion) → slice_get received i ≡ Some x → new ≡ now ++ constant_put x (slice_index_or constants i None)
+    → now ++ constant_puts (drop i received) (drop i constants) ≡ all → new ++ constant_puts (drop (i + 1) received) (drop (i + 1) constants) ≡ all
+puts_more received constants i x now new all at is before =
+    let put = constant_put x (slice_index_or constants i None) in
+    let rest = constant_puts (drop (i + 1) received) (drop (i + 1) constants) in
+    ap (λ l. l ++ rest) is ∙ append_assoc now put rest ∙ ap (λ l. now ++ l) (sym (puts_next received constants i x at)) ∙ before
