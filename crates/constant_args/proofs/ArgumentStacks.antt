@@ -221,7 +221,7 @@ module _ (graphs middles : List GraphShape) (program : IsGraphProgram graphs) (k
     abbrev middle : GraphShape
     middle = graph_numbered middles u
 
-    lt : u < length graphs
+    abbrev lt : u < length graphs
     lt = in_unit.enters.0
 
     abbrev puts : List Insertion
@@ -295,7 +295,7 @@ module _ (graphs middles : List GraphShape) (program : IsGraphProgram graphs) (k
         let silent = subst (λ l. Silently (graph_code middle.shared middle.received l) run.0 entered' there' 0) (sym k.nodes) run.1 in
         let arguments : g.arguments ≡ f.arguments = in_unit.agree.arguments first in
         let changes_none = puts_change_none graph.received k.constants entered'.values entered'.values
-        (λ i x c at known. received_value graph.received 0 g.arguments (with_first (shared_values graph.shared g.values) all_zero) can.received_differ i x at ∙ ap (λ l. slice_index_or l i (pos 0)) arguments ∙ in_unit.enters.1 i c known)
+        (λ i x c at known. let place : 0 + i ≡ i = omega arith in received_value graph.received 0 g.arguments (with_first (shared_values graph.shared g.values) all_zero) can.received_differ i x at ∙ ap (λ j. slice_index_or g.arguments j (pos 0)) place ∙ ap (λ l. slice_index_or l i (pos 0)) arguments ∙ in_unit.enters.1 i c known)
         (λ y. refl) in
         record {
           steps = 1;

@@ -24,7 +24,7 @@ abbrev SameConstants : List (Option ℤ) → List (Option ℤ) → Type 0
 SameConstants first second = (i : ℕ) (c : ℤ) → (slice_get first i ≡ Some (Some c)) ↔ (slice_get second i ≡ Some (Some c))
 
 -- no constants give no assignments
-puts_none : (received : List ℕ) → constant_puts received [] ≡ []
+pub puts_none : (received : List ℕ) → constant_puts received [] ≡ []
 puts_none [] = refl
 puts_none (x ∷ received) = refl
 
@@ -86,11 +86,11 @@ puts_change_none (x ∷ received) (Some c ∷ constants) v w have same y =
 -- a number that stands at no place of a list is not in it
 not_listed : (x : ℕ) (xs : List ℕ) → ((i : ℕ) → slice_get xs i ≡ Some x → ⊥) → is_in x xs ≡ false
 not_listed x [] out = refl
-not_listed x (y ∷ ys) out = go (nat_eq y x) refl
+not_listed x (y ∷ ys) out = go (nat_eq y x) refl (not_listed x ys (λ i. out (suc i)))
   where
-    go : (b : Bool) → nat_eq y x ≡ b → (b || is_in x ys) ≡ false
-    go true e = absurd (out 0 (ap Some (eqb-true y x e)))
-    go false e = not_listed x ys (λ i. out (suc i))
+    go : (b : Bool) → nat_eq y x ≡ b → is_in x ys ≡ false → (b || is_in x ys) ≡ false
+    go true e rest = absurd (out 0 (ap Some (eqb-true y x e)))
+    go false e rest = rest
 
 -- the first of variables that differ is not among the others
 first_out : (x : ℕ) (xs : List ℕ) → AllDiffer (x ∷ xs) → is_in x xs ≡ false

@@ -262,13 +262,13 @@ all_constants graphs givens none some empty are = record {
   each = λ u given at. of u given at (cases_eq u 0);
 }
   where
+    later : (u : ℕ) → (u ≡ 0 → ⊥) → 1 ≤ u
+    later zero apart = absurd (apart refl)
+    later (suc u) apart = omega arith
+
     of : (u : ℕ) (given : Given) → slice_get (slice_set givens 0 none) u ≡ Some given → (u ≡ 0) ⊎ (u ≡ 0 → ⊥) → AreConstants (IsCallBefore graphs (length graphs) 0) u given.constants.items
     of u given at (inl first) =
         let both : Some none ≡ Some given = sym (set_here givens 0 none (omega (arith, some, are.long))) ∙ ap (slice_get (slice_set givens 0 none)) (sym first) ∙ at in
         let same : none ≡ given = cc in
         subst (λ v. AreConstants (IsCallBefore graphs (length graphs) 0) v given.constants.items) (sym first) (none_constants (IsCallBefore graphs (length graphs) 0) given.constants.items (ap (λ (g : Given). g.constants.items) (sym same) ∙ empty))
     of u given at (inr apart) = given_constants (IsCallBefore graphs (length graphs) 0) u given (later u apart) (are.each u given (sym (set_elsewhere givens 0 u none apart) ∙ at))
-
-    later : (u : ℕ) → (u ≡ 0 → ⊥) → 1 ≤ u
-    later zero apart = absurd (apart refl)
-    later (suc u) apart = omega arith

@@ -3,3 +3,4 @@ pub mod Begun
 pub mod ArgumentStacks
 pub mod Gathering
 pub mod Made
+pub mod Steps

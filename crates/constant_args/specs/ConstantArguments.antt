@@ -46,13 +46,17 @@ AreConstants CallsOf u constants = (i : ℕ) (c : ℤ)
 
 -- ---- what becomes of a graph
 
--- the assignment of each constant to the variable that receives the argument
+-- the assignment of a constant to a variable, where there is one
+abbrev pub constant_put : ℕ → Option ℤ → List Insertion
+constant_put x None = []
+constant_put x (Some c) = record { var = x; rhs = Plain (Const c) } ∷ []
+
+-- the assignments of the constants to the variables that receive the arguments of their numbers
 abbrev pub constant_puts : List ℕ → List (Option ℤ) → List Insertion
 constant_puts [] constants = []
 constant_puts (x ∷ received) [] = []
-constant_puts (x ∷ received) (None ∷ constants) = constant_puts received constants
-constant_puts (x ∷ received) (Some c ∷ constants) = record { var = x; rhs = Plain (Const c) }
-    ∷ constant_puts received constants
+constant_puts (x ∷ received) (constant ∷ constants) =
+    constant_put x constant ++ constant_puts received constants
 
 -- the nodes with one more between Start and the node that it leads to
 abbrev pub opened : List Node → List Node

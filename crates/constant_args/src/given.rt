@@ -1,5 +1,5 @@
 // What the calls of a unit give it.
-ghost use Rattle.std.specs.Prelude.{◌≡◌, ◌++◌, ◌×◌, ◌↔◌, ◌<◌, false, length, map, replicate, slice_get, IfOk, OnOk, IsTrue, Some};
+ghost use Rattle.std.specs.Prelude.{◌≡◌, ◌++◌, ◌+◌, ◌↔◌, ◌<◌, [], ℤ, false, length, map, replicate, slice_get, IfOk, OnOk, IsTrue, Some};
 ghost use Rattle.mir_base.specs.declared.instructions.Operand.TheVariants.{Const};
 ghost use Rattle.constant_args.specs.Gathered.{Agree, AreAllConstants, AreGivenBefore, CallIsWithin, CallsExist, NotesCall, NotesNode, constant_of};
 

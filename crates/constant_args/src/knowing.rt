@@ -1,8 +1,8 @@
 // The graph of a unit that knows the constants of its arguments.
-ghost use Rattle.std.specs.Prelude.{◌≡◌, ◌<◌, ◌++◌, ◌∷◌, [], length, slice_set, IfOk, OnOk};
+ghost use Rattle.std.specs.Prelude.{◌≡◌, ◌<◌, ◌++◌, ◌∷◌, [], length, slice_index_or, slice_set, IfOk, None, OnOk};
 ghost use Rattle.flow_graph.specs.declared.nodes.Node.TheVariants.{Skip, Start};
 ghost use Rattle.program_pass.specs.Puts.{insertions};
-ghost use Rattle.constant_args.specs.ConstantArguments.{begun, constant_puts};
+ghost use Rattle.constant_args.specs.ConstantArguments.{begun, constant_put, constant_puts};
 ghost use Rattle.constant_args.specs.Gathered.{KnowsMade};
 
 use flow_graph::{Graph, Node};
@@ -26,7 +26,7 @@ pub(crate) fn knowing(
     Ok(known)
 }
 
-/// The assignments of the constants to the variables that receive them.
+/// The assignments of the constants to the variables that receive the arguments of their numbers.
 fn constant_puts(
     alloc: Global,
     received: &[usize],
@@ -37,15 +37,33 @@ fn constant_puts(
 {
     let mut puts = Vec::new(alloc);
     for i in 0..received.len() {
-        match constants.get(i) {
-            Some(Some(constant)) => {
-                puts.push(plain_put(received[i], Operand::Const(*constant)))?;
-            }
-            Some(None) => {}
-            None => {}
-        }
+        push_put(&mut puts, received[i], constant_at(constants, i))?;
     }
     Ok(puts)
+}
+
+/// The constant of this number, where there is one.
+fn constant_at(constants: &[Option<i64>], i: usize) -> Option<i64>
+    ensures { result ≡ slice_index_or constants.now i None }
+{
+    match constants.get(i) {
+        Some(constant) => *constant,
+        None => None,
+    }
+}
+
+/// Adds the assignment of a constant, where there is one.
+fn push_put(puts: &mut Vec<Put>, var: usize, constant: Option<i64>) -> Result<(), Memory>
+    ensures { OnOk result (insertions puts.new.items ≡
+        insertions puts.old.items ++ constant_put var constant) }
+{
+    match constant {
+        None => Ok(()),
+        Some(value) => {
+            puts.push(plain_put(var, Operand::Const(value)))?;
+            Ok(())
+        }
+    }
 }
 
 /// The nodes with these assignments behind Start; without any they stay as they are.
