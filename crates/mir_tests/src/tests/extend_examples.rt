@@ -21,6 +21,7 @@ $ lower extensions: changes
 3: x <- a to 4
 4: y <- a to 5
 8: w <- b to 9
+9 stay
 # tests: within a short, another distance, one bit less, and where the tests do not lead
 main: begin
 receive n(val)
@@ -39,6 +40,7 @@ return x
 end
 $ lower extensions: changes
 4: x <- n to 5
+12 stay
 # a source that is assigned since, one that reads itself, one path alone, and no shift at all
 main: begin
 receive n(val)
@@ -57,4 +59,5 @@ w <- v shra 0
 return x
 end
 $ lower extensions: changes
+14 stay
 ";

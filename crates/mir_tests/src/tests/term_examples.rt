@@ -70,6 +70,7 @@ $ lower terms: changes
 16: q <- n shr 7 to 17
 18: s <- n min 4 to 19
 20: u <- n max 12 to 21
+12 stay
 # comparisons of comparisons with 0
 main: begin
 receive n(val)
@@ -95,6 +96,7 @@ $ lower terms: changes
 7: g <- n != 0 to 8
 8: h <- ! n to 9
 10: j <- n != 3 to 11
+6 stay
 # an operand that is assigned since, one that reads itself, one path alone, and operators that do not go together
 main: begin
 receive n(val)
@@ -115,6 +117,7 @@ k <- i + 1
 return b
 end
 $ lower terms: changes
+15 stay
 # three in turn: each pass makes one of two
 main: begin
 receive n(val)
@@ -126,7 +129,9 @@ end
 $ lower terms: changes
 2: b <- n + 3 to 3
 3: c <- a + 5 to 4
+3 stay
 $ lower terms terms: changes
 2: b <- n + 3 to 3
 3: c <- n + 6 to 4
+3 stay
 ";

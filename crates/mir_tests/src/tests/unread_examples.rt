@@ -18,6 +18,7 @@ end
 $ lower unread: changes
 1: skip to 2
 4: skip to 5
+7 stay
 # what is known of divisors: an or, a sign, a not, what meets, and on which side of a test they are
 main: begin
 receive n(val)
@@ -42,7 +43,8 @@ $ lower unread: changes
 2: skip to 3
 4: skip to 5
 7: skip to 8
-13: skip to 14
+14: skip to 15
+12 stay
 # a global is read by the return, and not where it is assigned before; a chain goes from its end
 global g
 main: begin
@@ -56,8 +58,10 @@ end
 $ lower unread: changes
 1: skip to 2
 4: skip to 5
+4 stay
 $ lower unread unread: changes
 1: skip to 2
 3: skip to 4
 4: skip to 5
+3 stay
 ";
