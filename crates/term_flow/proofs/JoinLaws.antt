@@ -18,7 +18,7 @@ use Rattle.mir_base.specs.Numbers.{is_dividing, truth, value_of_op}
 use Rattle.mir_base.specs.Shapes.{operand_vars, rhs_vars}
 use Rattle.mir_base.specs.Units.{operand_value}
 use Rattle.term_flow.specs.declared.reading.ByConstant.{ByConstant}
-use Rattle.term_flow.specs.Terms.{applied, denied_op, denied_rhs, first_of_both, joined_to, of_truth, of_zero, over_by, over_read, read_rhs, rhs_by, rhs_from}
+use Rattle.term_flow.specs.Terms.{value_by, denied_op, denied_rhs, first_of_both, joined_to, of_truth, of_zero, over_by, over_read, read_rhs, rhs_by, rhs_from}
 use Rattle.term_flow.proofs.TermLaws.{IfOver, over_holds, reads, writes, zero_is}
 
 -- ---- comparisons
@@ -121,58 +121,58 @@ truth_some false = refl
 
 module _ (values : Values) (held : Rhs) where
   -- what the operator gives of it and of 0
-  of_zero_gives : (op : Op) (new : Rhs) → of_zero op held ≡ Some new → Gives values new (applied op (rhs_value values held) (pos 0)) (rhs_vars held)
+  of_zero_gives : (op : Op) (new : Rhs) → of_zero op held ≡ Some new → Gives values new (value_by op (rhs_value values held) (pos 0)) (rhs_vars held)
   of_zero_gives Eq new e =
       let h = rhs_denied values held new e in
       record { value = h.other_is.value ∙ sym (ap (λ z. truth (int_eq z (pos 0))) h.is.value ∙ truth_zero h.holds); never = h.other_is.never; counted = h.other_is.counted; reads = h.other_is.reads }
   of_zero_gives Ne new e = by (denied_rhs held) refl e
     where
-      by : (o : Option Rhs) → denied_rhs held ≡ o → option_map (λ denied. held) o ≡ Some new → Gives values new (applied Ne (rhs_value values held) (pos 0)) (rhs_vars held)
+      by : (o : Option Rhs) → denied_rhs held ≡ o → option_map (λ denied. held) o ≡ Some new → Gives values new (value_by Ne (rhs_value values held) (pos 0)) (rhs_vars held)
       by None is f = cc
       by (Some other) is f =
           let h = rhs_denied values held other is in
-          subst (λ r. Gives values r (applied Ne (rhs_value values held) (pos 0)) (rhs_vars held)) (same_Some held new f)
+          subst (λ r. Gives values r (value_by Ne (rhs_value values held) (pos 0)) (rhs_vars held)) (same_Some held new f)
           (record { value = h.is.value ∙ sym (ap (λ z. truth (not (int_eq z (pos 0)))) h.is.value ∙ truth_some h.holds); never = h.is.never; counted = h.is.counted; reads = refl })
   of_zero_gives _ new e = cc
 
   -- of any constant
-  of_truth_gives : (op : Op) (c : ℤ) (new : Rhs) → of_truth op c held ≡ Some new → Gives values new (applied op (rhs_value values held) c) (rhs_vars held)
+  of_truth_gives : (op : Op) (c : ℤ) (new : Rhs) → of_truth op c held ≡ Some new → Gives values new (value_by op (rhs_value values held) c) (rhs_vars held)
   of_truth_gives op c new e = by (int_eq c (pos 0)) refl e
     where
-      by : (b : Bool) → int_eq c (pos 0) ≡ b → (if b then of_zero op held else None) ≡ Some new → Gives values new (applied op (rhs_value values held) c) (rhs_vars held)
+      by : (b : Bool) → int_eq c (pos 0) ≡ b → (if b then of_zero op held else None) ≡ Some new → Gives values new (value_by op (rhs_value values held) c) (rhs_vars held)
       by true zero f =
-          subst (λ d. Gives values new (applied op (rhs_value values held) d) (rhs_vars held)) (sym ((Decides-int_eq c (pos 0)).0 zero)) (of_zero_gives op new f)
+          subst (λ d. Gives values new (value_by op (rhs_value values held) d) (rhs_vars held)) (sym ((Decides-int_eq c (pos 0)).0 zero)) (of_zero_gives op new f)
       by false some f = cc
 
 -- ---- an operator with a constant on what the variable holds
 
 module _ (values : Values) (fits : ValuesFit values) (t : ByConstant) (low : FitsSigned w64 t.constant) (held : Rhs) where
   -- where that is a variable and a constant too
-  over_gives : (inner : ByConstant) → read_rhs held ≡ Some inner → (o : Option ByConstant) → IfOver (λ v. applied t.op (applied inner.op v inner.constant) t.constant) inner.var o
-      → (new : Rhs) → rhs_from o ≡ Some new → Gives values new (applied t.op (rhs_value values held) t.constant) (rhs_vars held)
+  over_gives : (inner : ByConstant) → read_rhs held ≡ Some inner → (o : Option ByConstant) → IfOver (λ v. value_by t.op (value_by inner.op v inner.constant) t.constant) inner.var o
+      → (new : Rhs) → rhs_from o ≡ Some new → Gives values new (value_by t.op (rhs_value values held) t.constant) (rhs_vars held)
   over_gives inner is None over new e = cc
   over_gives inner is (Some s) over new e =
       let r = reads values held inner is in
       let w = writes values fits s.op s.var s.constant over.fits over.undivided in
-      subst (λ rhs. Gives values rhs (applied t.op (rhs_value values held) t.constant) (rhs_vars held)) (same_Some (rhs_by s.op s.var s.constant) new e)
+      subst (λ rhs. Gives values rhs (value_by t.op (rhs_value values held) t.constant) (rhs_vars held)) (same_Some (rhs_by s.op s.var s.constant) new e)
       (record {
-        value = w.value ∙ ap (λ y. applied s.op (values y) s.constant) over.var_is ∙ sym (over.gives (values inner.var) (fits.fit inner.var)) ∙ ap (λ z. applied t.op z t.constant) (sym r.value);
+        value = w.value ∙ ap (λ y. value_by s.op (values y) s.constant) over.var_is ∙ sym (over.gives (values inner.var) (fits.fit inner.var)) ∙ ap (λ z. value_by t.op z t.constant) (sym r.value);
         never = w.never;
         counted = w.counted;
         reads = w.vars ∙ ap (λ y. y ∷ []) over.var_is ∙ sym r.vars;
       })
 
   -- any right side
-  pub held_gives : (new : Rhs) → joined_to t (Some held) ≡ Some new → Gives values new (applied t.op (rhs_value values held) t.constant) (rhs_vars held)
+  pub held_gives : (new : Rhs) → joined_to t (Some held) ≡ Some new → Gives values new (value_by t.op (rhs_value values held) t.constant) (rhs_vars held)
   held_gives new e = by (of_truth t.op t.constant held) refl e
     where
-      inside : (o : Option ByConstant) → read_rhs held ≡ o → rhs_from (over_read t o) ≡ Some new → Gives values new (applied t.op (rhs_value values held) t.constant) (rhs_vars held)
+      inside : (o : Option ByConstant) → read_rhs held ≡ o → rhs_from (over_read t o) ≡ Some new → Gives values new (value_by t.op (rhs_value values held) t.constant) (rhs_vars held)
       inside None is f = cc
       inside (Some inner) is f =
           over_gives inner is (over_by t.op t.constant inner.op inner.var inner.constant)
           (over_holds t.op t.constant inner.op inner.var inner.constant low (reads values held inner is).fits) new f
 
-      by : (o : Option Rhs) → of_truth t.op t.constant held ≡ o → first_of_both o (rhs_from (over_read t (read_rhs held))) ≡ Some new → Gives values new (applied t.op (rhs_value values held) t.constant) (rhs_vars held)
+      by : (o : Option Rhs) → of_truth t.op t.constant held ≡ o → first_of_both o (rhs_from (over_read t (read_rhs held))) ≡ Some new → Gives values new (value_by t.op (rhs_value values held) t.constant) (rhs_vars held)
       by (Some rhs) is f = of_truth_gives values held t.op t.constant new (is ∙ f)
       by None is f = inside (read_rhs held) refl f
 
@@ -182,4 +182,4 @@ pub joined_gives : (values : Values) → ValuesFit values → (rhs : Rhs) (t : B
 joined_gives values fits rhs t is held new e agrees =
     let r = reads values rhs t is in
     let g = held_gives values fits t r.fits held new e in
-    record { value = g.value ∙ ap (λ z. applied t.op z t.constant) (sym agrees) ∙ sym r.value; never = g.never; counted = g.counted; reads = g.reads }
+    record { value = g.value ∙ ap (λ z. value_by t.op z t.constant) (sym agrees) ∙ sym r.value; never = g.never; counted = g.counted; reads = g.reads }

@@ -22,14 +22,14 @@ use Rattle.mir_base.specs.NumberLaws.{value_fits, wrapped_fits, zero_fits}
 use Rattle.mir_base.specs.Numbers.{distance, is_dividing, traps, truth, unsigned, value_of_op, wrapped}
 use Rattle.mir_base.specs.Shapes.{rhs_vars}
 use Rattle.term_flow.specs.declared.reading.ByConstant.{ByConstant}
-use Rattle.term_flow.specs.Terms.{added, applied, both, both_far, left_read, over_by, read_binary, read_rhs, repeated, rhs_by, right_read, solved, taken_from, with_constant, within_word}
+use Rattle.term_flow.specs.Terms.{sum_with, value_by, joint_constant, joint_distance, left_read, over_by, read_binary, read_rhs, same_again, rhs_by, right_read, solution, difference_from, with_constant, shift_within}
 use Rattle.term_flow.proofs.NumberLaws.{add_add, add_nothing, add_solved, add_taken, and_twice, distance_is, eq_turned, max_turned, max_twice, min_turned, min_twice, mul_twice, neg_is_sub, or_twice, shl_twice, shr_twice, shra_twice, sub_add, sub_is_add, sub_solved, sub_taken, xor_nothing, xor_solved, xor_twice}
 
 -- ---- reading
 
 -- the operator with one operand open does not divide, and gives what the variable and the constant do
 record IsRead (op : Op) (f : ℤ → ℤ) (x : ℕ) (t : ByConstant) : Type 0 where
-  gives : (v : ℤ) → f v ≡ applied t.op v t.constant
+  gives : (v : ℤ) → f v ≡ value_by t.op v t.constant
   fits : FitsSigned w64 t.constant
   var_is : t.var ≡ x
   undivided : is_dividing op ≡ false
@@ -76,7 +76,7 @@ never_traps op b undivided = rw undivided refl
 
 -- the right side never traps, counts once, and gives what this variable and this constant do
 pub record Reads (values : Values) (rhs : Rhs) (t : ByConstant) : Type 0 where
-  pub value : rhs_value values rhs ≡ applied t.op (values t.var) t.constant
+  pub value : rhs_value values rhs ≡ value_by t.op (values t.var) t.constant
   pub fits : FitsSigned w64 t.constant
   pub never : rhs_traps values rhs ≡ false
   pub counted : rhs_count rhs ≡ 1
@@ -94,7 +94,7 @@ module _ (values : Values) where
   binary_reads op (Var x) (Const c) t e =
       let h : IsRead op (λ v. value_of_op op v (wrapped c)) x t = subst (IfRead op (λ v. value_of_op op v (wrapped c)) x) e (right_holds op x (wrapped c) (wrapped_fits c)) in
       record {
-        value = h.gives (values x) ∙ ap (λ y. applied t.op (values y) t.constant) (sym h.var_is);
+        value = h.gives (values x) ∙ ap (λ y. value_by t.op (values y) t.constant) (sym h.var_is);
         fits = h.fits;
         never = never_traps op (wrapped c) h.undivided;
         counted = refl;
@@ -103,7 +103,7 @@ module _ (values : Values) where
   binary_reads op (Const c) (Var x) t e =
       let h : IsRead op (λ v. value_of_op op (wrapped c) v) x t = subst (IfRead op (λ v. value_of_op op (wrapped c) v) x) e (left_holds op (wrapped c) x (wrapped_fits c)) in
       record {
-        value = h.gives (values x) ∙ ap (λ y. applied t.op (values y) t.constant) (sym h.var_is);
+        value = h.gives (values x) ∙ ap (λ y. value_by t.op (values y) t.constant) (sym h.var_is);
         fits = h.fits;
         never = never_traps op (values x) h.undivided;
         counted = refl;
@@ -127,7 +127,7 @@ module _ (values : Values) where
 
 -- where the variable has a value in range, this gives what the variable and the constant do
 pub record IsOver (g : ℤ → ℤ) (x : ℕ) (s : ByConstant) : Type 0 where
-  pub gives : (v : ℤ) → FitsSigned w64 v → g v ≡ applied s.op v s.constant
+  pub gives : (v : ℤ) → FitsSigned w64 v → g v ≡ value_by s.op v s.constant
   pub fits : FitsSigned w64 s.constant
   pub var_is : s.var ≡ x
   pub undivided : is_dividing s.op ≡ false
@@ -138,20 +138,20 @@ IfOver g x None = Unit {0}
 IfOver g x (Some s) = IsOver g x s
 
 -- sums
-added_holds : (c : ℤ) (q : Op) (x : ℕ) (k : ℤ) → IfOver (λ v. applied Add (applied q v k) c) x (added c q x k)
-added_holds c Add x k = record { gives = λ v fits. add_add v k c; fits = wrapped_fits _; var_is = refl; undivided = refl }
-added_holds c Sub x k = record { gives = λ v fits. sub_add v k c; fits = wrapped_fits _; var_is = refl; undivided = refl }
-added_holds c _ x k = tt
+sum_holds : (c : ℤ) (q : Op) (x : ℕ) (k : ℤ) → IfOver (λ v. value_by Add (value_by q v k) c) x (sum_with c q x k)
+sum_holds c Add x k = record { gives = λ v fits. add_add v k c; fits = wrapped_fits _; var_is = refl; undivided = refl }
+sum_holds c Sub x k = record { gives = λ v fits. sub_add v k c; fits = wrapped_fits _; var_is = refl; undivided = refl }
+sum_holds c _ x k = tt
 
 -- differences
-taken_holds : (c : ℤ) (q : Op) (x : ℕ) (k : ℤ) → IfOver (λ v. applied Sub (applied q v k) c) x (taken_from c q x k)
-taken_holds c Add x k = record { gives = λ v fits. add_taken v k c; fits = wrapped_fits _; var_is = refl; undivided = refl }
-taken_holds c Sub x k = record { gives = λ v fits. sub_taken v k c; fits = wrapped_fits _; var_is = refl; undivided = refl }
-taken_holds c _ x k = tt
+difference_holds : (c : ℤ) (q : Op) (x : ℕ) (k : ℤ) → IfOver (λ v. value_by Sub (value_by q v k) c) x (difference_from c q x k)
+difference_holds c Add x k = record { gives = λ v fits. add_taken v k c; fits = wrapped_fits _; var_is = refl; undivided = refl }
+difference_holds c Sub x k = record { gives = λ v fits. sub_taken v k c; fits = wrapped_fits _; var_is = refl; undivided = refl }
+difference_holds c _ x k = tt
 
 -- of this number the operator makes c
 record IsSolved (c : ℤ) (q : Op) (k d : ℤ) : Type 0 where
-  tests : (v : ℤ) → FitsSigned w64 v → int_eq (applied q v k) c ≡ int_eq v d
+  tests : (v : ℤ) → FitsSigned w64 v → int_eq (value_by q v k) c ≡ int_eq v d
   fits : FitsSigned w64 d
 
 -- so it is where there is one
@@ -160,114 +160,114 @@ IfSolved c q k None = Unit {0}
 IfSolved c q k (Some d) = IsSolved c q k d
 
 -- each equation of the table
-solved_holds : (c : ℤ) (q : Op) (k : ℤ) → FitsSigned w64 c → IfSolved c q k (solved c q k)
-solved_holds c Add k fits = record { tests = λ v fits'. add_solved v k c fits' fits; fits = wrapped_fits _ }
-solved_holds c Sub k fits = record { tests = λ v fits'. sub_solved v k c fits' fits; fits = wrapped_fits _ }
-solved_holds c Xor k fits = record { tests = λ v fits'. xor_solved v k c fits' fits; fits = wrapped_fits _ }
-solved_holds c _ k fits = tt
+solution_holds : (c : ℤ) (q : Op) (k : ℤ) → FitsSigned w64 c → IfSolved c q k (solution c q k)
+solution_holds c Add k fits = record { tests = λ v fits'. add_solved v k c fits' fits; fits = wrapped_fits _ }
+solution_holds c Sub k fits = record { tests = λ v fits'. sub_solved v k c fits' fits; fits = wrapped_fits _ }
+solution_holds c Xor k fits = record { tests = λ v fits'. xor_solved v k c fits' fits; fits = wrapped_fits _ }
+solution_holds c _ k fits = tt
 
 -- a comparison by `=`
-equal_holds : (c : ℤ) (q : Op) (x : ℕ) (k : ℤ) (o : Option ℤ) → IfSolved c q k o → IfOver (λ v. applied Eq (applied q v k) c) x (option_map (with_constant Eq x) o)
+equal_holds : (c : ℤ) (q : Op) (x : ℕ) (k : ℤ) (o : Option ℤ) → IfSolved c q k o → IfOver (λ v. value_by Eq (value_by q v k) c) x (option_map (with_constant Eq x) o)
 equal_holds c q x k None is = tt
 equal_holds c q x k (Some d) is = record { gives = λ v fits. ap truth (is.tests v fits); fits = is.fits; var_is = refl; undivided = refl }
 
 -- and by `!=`
-differ_holds : (c : ℤ) (q : Op) (x : ℕ) (k : ℤ) (o : Option ℤ) → IfSolved c q k o → IfOver (λ v. applied Ne (applied q v k) c) x (option_map (with_constant Ne x) o)
+differ_holds : (c : ℤ) (q : Op) (x : ℕ) (k : ℤ) (o : Option ℤ) → IfSolved c q k o → IfOver (λ v. value_by Ne (value_by q v k) c) x (option_map (with_constant Ne x) o)
 differ_holds c q x k None is = tt
 differ_holds c q x k (Some d) is = record { gives = λ v fits. ap (λ b. truth (not b)) (is.tests v fits); fits = is.fits; var_is = refl; undivided = refl }
 
 -- once with this constant is twice with those
-record IsBoth (op : Op) (k c d : ℤ) : Type 0 where
-  gives : (v : ℤ) → FitsSigned w64 v → applied op (applied op v k) c ≡ applied op v d
+record IsJoint (op : Op) (k c d : ℤ) : Type 0 where
+  gives : (v : ℤ) → FitsSigned w64 v → value_by op (value_by op v k) c ≡ value_by op v d
   fits : FitsSigned w64 d
   undivided : is_dividing op ≡ false
 
 -- so it is where there is one
-abbrev IfBoth : Op → ℤ → ℤ → Option ℤ → Type 0
-IfBoth op k c None = Unit {0}
-IfBoth op k c (Some d) = IsBoth op k c d
+abbrev IfJoint : Op → ℤ → ℤ → Option ℤ → Type 0
+IfJoint op k c None = Unit {0}
+IfJoint op k c (Some d) = IsJoint op k c d
 
 -- a distance is in range
 far_fits : (far : ℕ) → far ≤ 63 → FitsSigned w64 (pos far)
 far_fits far low = record { sfits = omega arith }
 
 -- a shift that goes at most 63 places
-within_holds : (op : Op) (k c : ℤ) (far : ℕ) → (far ≤ 63 → IsBoth op k c (pos far)) → IfBoth op k c (within_word far)
+within_holds : (op : Op) (k c : ℤ) (far : ℕ) → (far ≤ 63 → IsJoint op k c (pos far)) → IfJoint op k c (shift_within far)
 within_holds op k c far is = by (nat_le far 63) refl
   where
-    by : (b : Bool) → nat_le far 63 ≡ b → IfBoth op k c (if b then Some (pos far) else None)
+    by : (b : Bool) → nat_le far 63 ≡ b → IfJoint op k c (if b then Some (pos far) else None)
     by true low = is (leb-true far 63 low)
     by false low = tt
 
 -- each operator of the table
-both_holds : (op : Op) (k c : ℤ) → FitsSigned w64 k → FitsSigned w64 c → IfBoth op k c (both op k c)
-both_holds Mul k c fits fits' = record { gives = λ v f. mul_twice v k c; fits = wrapped_fits _; undivided = refl }
-both_holds Min k c fits fits' = record { gives = λ v f. min_twice v k c; fits = value_fits Min k c fits fits'; undivided = refl }
-both_holds Max k c fits fits' = record { gives = λ v f. max_twice v k c; fits = value_fits Max k c fits fits'; undivided = refl }
-both_holds And k c fits fits' = record { gives = λ v f. and_twice v k c; fits = wrapped_fits _; undivided = refl }
-both_holds Or k c fits fits' = record { gives = λ v f. or_twice v k c; fits = wrapped_fits _; undivided = refl }
-both_holds Xor k c fits fits' = record { gives = λ v f. xor_twice v k c; fits = wrapped_fits _; undivided = refl }
-both_holds Shl k c fits fits' = within_holds Shl k c (both_far k c) (λ low. record {
-  gives = λ v f. shl_twice v (distance k) (distance c) ∙ sym (ap (λ n. wrapped (v *ℤ pos (2 ^ n))) (distance_is (both_far k c) low));
-  fits = far_fits (both_far k c) low;
+joint_holds : (op : Op) (k c : ℤ) → FitsSigned w64 k → FitsSigned w64 c → IfJoint op k c (joint_constant op k c)
+joint_holds Mul k c fits fits' = record { gives = λ v f. mul_twice v k c; fits = wrapped_fits _; undivided = refl }
+joint_holds Min k c fits fits' = record { gives = λ v f. min_twice v k c; fits = value_fits Min k c fits fits'; undivided = refl }
+joint_holds Max k c fits fits' = record { gives = λ v f. max_twice v k c; fits = value_fits Max k c fits fits'; undivided = refl }
+joint_holds And k c fits fits' = record { gives = λ v f. and_twice v k c; fits = wrapped_fits _; undivided = refl }
+joint_holds Or k c fits fits' = record { gives = λ v f. or_twice v k c; fits = wrapped_fits _; undivided = refl }
+joint_holds Xor k c fits fits' = record { gives = λ v f. xor_twice v k c; fits = wrapped_fits _; undivided = refl }
+joint_holds Shl k c fits fits' = within_holds Shl k c (joint_distance k c) (λ low. record {
+  gives = λ v f. shl_twice v (distance k) (distance c) ∙ sym (ap (λ n. wrapped (v *ℤ pos (2 ^ n))) (distance_is (joint_distance k c) low));
+  fits = far_fits (joint_distance k c) low;
   undivided = refl;
 })
-both_holds Shr k c fits fits' = within_holds Shr k c (both_far k c) (λ low. record {
-  gives = λ v f. shr_twice v (distance k) (distance c) ∙ sym (ap (λ n. wrapped (pos (unsigned v / 2 ^ n))) (distance_is (both_far k c) low));
-  fits = far_fits (both_far k c) low;
+joint_holds Shr k c fits fits' = within_holds Shr k c (joint_distance k c) (λ low. record {
+  gives = λ v f. shr_twice v (distance k) (distance c) ∙ sym (ap (λ n. wrapped (pos (unsigned v / 2 ^ n))) (distance_is (joint_distance k c) low));
+  fits = far_fits (joint_distance k c) low;
   undivided = refl;
 })
-both_holds Shra k c fits fits' =
-    let far = min (both_far k c) 63 in
+joint_holds Shra k c fits fits' =
+    let far = min (joint_distance k c) 63 in
     let low : far ≤ 63 = omega arith in
     record { gives = λ v f. shra_twice v (distance k) (distance c) f ∙ sym (ap (λ n. int_div_euclid v (pos (2 ^ n))) (distance_is far low)); fits = far_fits far low; undivided = refl }
-both_holds _ k c fits fits' = tt
+joint_holds _ k c fits fits' = tt
 
 -- operators that compare equal are one
 same_ops : (a b : Op) → ops.eq a b ≡ true → a ≡ b
 same_ops a b h = search rules
 
 -- twice the same operator
-repeated_holds : (op : Op) (c : ℤ) (q : Op) (x : ℕ) (k : ℤ) → FitsSigned w64 c → FitsSigned w64 k → IfOver (λ v. applied op (applied q v k) c) x (repeated op c q x k)
-repeated_holds op c q x k fits fits' = by (ops.eq op q) refl
+same_again_holds : (op : Op) (c : ℤ) (q : Op) (x : ℕ) (k : ℤ) → FitsSigned w64 c → FitsSigned w64 k → IfOver (λ v. value_by op (value_by q v k) c) x (same_again op c q x k)
+same_again_holds op c q x k fits fits' = by (ops.eq op q) refl
   where
-    found : op ≡ q → (o : Option ℤ) → IfBoth op k c o → IfOver (λ v. applied op (applied q v k) c) x (option_map (with_constant op x) o)
+    found : op ≡ q → (o : Option ℤ) → IfJoint op k c o → IfOver (λ v. value_by op (value_by q v k) c) x (option_map (with_constant op x) o)
     found same None is = tt
     found same (Some d) is = record {
-      gives = λ v f. ap (λ r. applied op (applied r v k) c) (sym same) ∙ is.gives v f;
+      gives = λ v f. ap (λ r. value_by op (value_by r v k) c) (sym same) ∙ is.gives v f;
       fits = is.fits;
       var_is = refl;
       undivided = is.undivided;
     }
 
-    by : (b : Bool) → ops.eq op q ≡ b → IfOver (λ v. applied op (applied q v k) c) x (if b then option_map (with_constant op x) (both op k c) else None)
-    by true same = found (same_ops op q same) (both op k c) (both_holds op k c fits' fits)
+    by : (b : Bool) → ops.eq op q ≡ b → IfOver (λ v. value_by op (value_by q v k) c) x (if b then option_map (with_constant op x) (joint_constant op k c) else None)
+    by true same = found (same_ops op q same) (joint_constant op k c) (joint_holds op k c fits' fits)
     by false differ = tt
 
 -- any two
-pub over_holds : (op : Op) (c : ℤ) (q : Op) (x : ℕ) (k : ℤ) → FitsSigned w64 c → FitsSigned w64 k → IfOver (λ v. applied op (applied q v k) c) x (over_by op c q x k)
-over_holds Add c q x k fits fits' = added_holds c q x k
-over_holds Sub c q x k fits fits' = taken_holds c q x k
-over_holds Eq c q x k fits fits' = equal_holds c q x k (solved c q k) (solved_holds c q k fits)
-over_holds Ne c q x k fits fits' = differ_holds c q x k (solved c q k) (solved_holds c q k fits)
-over_holds op c q x k fits fits' = repeated_holds op c q x k fits fits'
+pub over_holds : (op : Op) (c : ℤ) (q : Op) (x : ℕ) (k : ℤ) → FitsSigned w64 c → FitsSigned w64 k → IfOver (λ v. value_by op (value_by q v k) c) x (over_by op c q x k)
+over_holds Add c q x k fits fits' = sum_holds c q x k
+over_holds Sub c q x k fits fits' = difference_holds c q x k
+over_holds Eq c q x k fits fits' = equal_holds c q x k (solution c q k) (solution_holds c q k fits)
+over_holds Ne c q x k fits fits' = differ_holds c q x k (solution c q k) (solution_holds c q k fits)
+over_holds op c q x k fits fits' = same_again_holds op c q x k fits fits'
 
 -- ---- writing
 
 -- the right side never traps, counts once at most, and gives what the variable and the constant do
 pub record Writes (values : Values) (op : Op) (x : ℕ) (c : ℤ) (rhs : Rhs) : Type 0 where
-  pub value : rhs_value values rhs ≡ applied op (values x) c
+  pub value : rhs_value values rhs ≡ value_by op (values x) c
   pub never : rhs_traps values rhs ≡ false
   pub counted : rhs_count rhs ≤ 1
   pub vars : rhs_vars rhs ≡ x ∷ []
 
 module _ (values : Values) (fits : ValuesFit values) where
   -- the variable alone
-  writes_alone : (op : Op) (x : ℕ) (c : ℤ) → values x ≡ applied op (values x) c → Writes values op x c (Plain (Var x))
+  writes_alone : (op : Op) (x : ℕ) (c : ℤ) → values x ≡ value_by op (values x) c → Writes values op x c (Plain (Var x))
   writes_alone op x c is = record { value = is; never = refl; counted = omega arith; vars = refl }
 
   -- the variable and then the constant
-  writes_right : (op : Op) (x : ℕ) (c : ℤ) → FitsSigned w64 c → is_dividing op ≡ false → value_of_op op (values x) c ≡ applied op (values x) c → Writes values op x c (Binary op (Var x) (Const c))
+  writes_right : (op : Op) (x : ℕ) (c : ℤ) → FitsSigned w64 c → is_dividing op ≡ false → value_of_op op (values x) c ≡ value_by op (values x) c → Writes values op x c (Binary op (Var x) (Const c))
   writes_right op x c low undivided is = record {
     value = ap (value_of_op op (values x)) (int_wrap_fits w64 c low) ∙ is;
     never = never_traps op (wrapped c) undivided;
@@ -276,12 +276,12 @@ module _ (values : Values) (fits : ValuesFit values) where
   }
 
   -- the one where the constant is 0, and else the other
-  writes_either : (op : Op) (x : ℕ) (c : ℤ) → FitsSigned w64 c → is_dividing op ≡ false → value_of_op op (values x) c ≡ applied op (values x) c → applied op (values x) (pos 0) ≡ values x
+  writes_either : (op : Op) (x : ℕ) (c : ℤ) → FitsSigned w64 c → is_dividing op ≡ false → value_of_op op (values x) c ≡ value_by op (values x) c → value_by op (values x) (pos 0) ≡ values x
       → Writes values op x c (if int_eq c (pos 0) then Plain (Var x) else Binary op (Var x) (Const c))
   writes_either op x c low undivided is nothing = by (int_eq c (pos 0)) refl
     where
       by : (b : Bool) → int_eq c (pos 0) ≡ b → Writes values op x c (if b then Plain (Var x) else Binary op (Var x) (Const c))
-      by true zero = writes_alone op x c (sym (ap (applied op (values x)) ((Decides-int_eq c (pos 0)).0 zero) ∙ nothing))
+      by true zero = writes_alone op x c (sym (ap (value_by op (values x)) ((Decides-int_eq c (pos 0)).0 zero) ∙ nothing))
       by false some = writes_right op x c low undivided is
 
   -- each operator

@@ -20,9 +20,9 @@ abbrev pub with_constant : Op → ℕ → ℤ → ByConstant
 with_constant op x c = record { op = op; var = x; constant = c }
 
 -- what it gives, where the variable has this value
-abbrev pub applied : Op → ℤ → ℤ → ℤ
-applied Sub v c = value_of_op Sub c v
-applied op v c = value_of_op op v c
+abbrev pub value_by : Op → ℤ → ℤ → ℤ
+value_by Sub v c = value_of_op Sub c v
+value_by op v c = value_of_op op v c
 
 -- the variable and then the constant; a difference is the sum with the negative
 abbrev pub right_read : Op → ℕ → ℤ → Option ByConstant
@@ -81,56 +81,57 @@ rhs_by op x c = Binary op (Var x) (Const c)
 -- ---- an operator with a constant c on what an operator q with a constant k makes of x
 
 -- the sum: (x + k) + c and (k - x) + c
-abbrev pub added : ℤ → Op → ℕ → ℤ → Option ByConstant
-added c Add x k = Some (with_constant Add x (value_of_op Add k c))
-added c Sub x k = Some (with_constant Sub x (value_of_op Add k c))
-added c _ x k = None
+abbrev pub sum_with : ℤ → Op → ℕ → ℤ → Option ByConstant
+sum_with c Add x k = Some (with_constant Add x (value_of_op Add k c))
+sum_with c Sub x k = Some (with_constant Sub x (value_of_op Add k c))
+sum_with c _ x k = None
 
 -- the difference: c - (x + k) and c - (k - x)
-abbrev pub taken_from : ℤ → Op → ℕ → ℤ → Option ByConstant
-taken_from c Add x k = Some (with_constant Sub x (value_of_op Sub c k))
-taken_from c Sub x k = Some (with_constant Add x (value_of_op Sub c k))
-taken_from c _ x k = None
+abbrev pub difference_from : ℤ → Op → ℕ → ℤ → Option ByConstant
+difference_from c Add x k = Some (with_constant Sub x (value_of_op Sub c k))
+difference_from c Sub x k = Some (with_constant Add x (value_of_op Sub c k))
+difference_from c _ x k = None
 
 -- the number of which the operator with the constant k makes c: v + k = c, k - v = c, v xor k = c
-abbrev pub solved : ℤ → Op → ℤ → Option ℤ
-solved c Add k = Some (value_of_op Sub c k)
-solved c Sub k = Some (value_of_op Sub k c)
-solved c Xor k = Some (value_of_op Xor k c)
-solved c _ k = None
+abbrev pub solution : ℤ → Op → ℤ → Option ℤ
+solution c Add k = Some (value_of_op Sub c k)
+solution c Sub k = Some (value_of_op Sub k c)
+solution c Xor k = Some (value_of_op Xor k c)
+solution c _ k = None
 
--- so far, where a shift goes so far
-abbrev pub within_word : ℕ → Option ℤ
-within_word far = if nat_le far 63 then Some (pos far) else None
+-- the constant of a shift that goes so far, where one does
+abbrev pub shift_within : ℕ → Option ℤ
+shift_within far = if nat_le far 63 then Some (pos far) else None
 
 -- how far two shifts go
-abbrev pub both_far : ℤ → ℤ → ℕ
-both_far k c = distance k + distance c
+abbrev pub joint_distance : ℤ → ℤ → ℕ
+joint_distance k c = distance k + distance c
 
 -- the constant with which the operator does once what it does with k and then with c
-abbrev pub both : Op → ℤ → ℤ → Option ℤ
-both Mul k c = Some (value_of_op Mul k c)
-both Min k c = Some (value_of_op Min k c)
-both Max k c = Some (value_of_op Max k c)
-both And k c = Some (value_of_op And k c)
-both Or k c = Some (value_of_op Or k c)
-both Xor k c = Some (value_of_op Xor k c)
-both Shl k c = within_word (both_far k c)
-both Shr k c = within_word (both_far k c)
-both Shra k c = Some (pos (min (both_far k c) 63))
-both _ k c = None
+abbrev pub joint_constant : Op → ℤ → ℤ → Option ℤ
+joint_constant Mul k c = Some (value_of_op Mul k c)
+joint_constant Min k c = Some (value_of_op Min k c)
+joint_constant Max k c = Some (value_of_op Max k c)
+joint_constant And k c = Some (value_of_op And k c)
+joint_constant Or k c = Some (value_of_op Or k c)
+joint_constant Xor k c = Some (value_of_op Xor k c)
+joint_constant Shl k c = shift_within (joint_distance k c)
+joint_constant Shr k c = shift_within (joint_distance k c)
+joint_constant Shra k c = Some (pos (min (joint_distance k c) 63))
+joint_constant _ k c = None
 
--- twice the same operator
-abbrev pub repeated : Op → ℤ → Op → ℕ → ℤ → Option ByConstant
-repeated op c q x k = if ops.eq op q then option_map (with_constant op x) (both op k c) else None
+-- the same operator again
+abbrev pub same_again : Op → ℤ → Op → ℕ → ℤ → Option ByConstant
+same_again op c q x k =
+    if ops.eq op q then option_map (with_constant op x) (joint_constant op k c) else None
 
--- any of them
+-- each operator
 abbrev pub over_by : Op → ℤ → Op → ℕ → ℤ → Option ByConstant
-over_by Add c q x k = added c q x k
-over_by Sub c q x k = taken_from c q x k
-over_by Eq c q x k = option_map (with_constant Eq x) (solved c q k)
-over_by Ne c q x k = option_map (with_constant Ne x) (solved c q k)
-over_by op c q x k = repeated op c q x k
+over_by Add c q x k = sum_with c q x k
+over_by Sub c q x k = difference_from c q x k
+over_by Eq c q x k = option_map (with_constant Eq x) (solution c q k)
+over_by Ne c q x k = option_map (with_constant Ne x) (solution c q k)
+over_by op c q x k = same_again op c q x k
 
 -- the first on the variable that the second is, where it is one
 abbrev pub over_read : ByConstant → Option ByConstant → Option ByConstant

@@ -1,9 +1,9 @@
 // What an operator with a constant makes of a variable that holds another right side.
 ghost use Rattle.std.specs.Prelude.{◌≡◌, Some};
-ghost use Rattle.term_flow.specs.Terms.{added, both, is_term, joined_to, over_by, over_read, read_rhs, repeated, solved, taken_from};
+ghost use Rattle.term_flow.specs.Terms.{sum_with, joint_constant, is_term, joined_to, over_by, over_read, read_rhs, same_again, solution, difference_from};
 
 use crate::comparing::{denied_rhs, of_truth};
-use crate::numbers::{both_far, value_of, within_word};
+use crate::numbers::{joint_distance, shift_within, value_of};
 use crate::reading::{ByConstant, read_rhs, rhs_by, with_constant};
 use held_assign::Picks;
 use mir_base::{Op, Rhs};
@@ -62,19 +62,19 @@ fn over_by(op: Op, c: i64, inner: ByConstant) -> Option<ByConstant>
     ensures { result ≡ over_by op c inner.op inner.var inner.constant }
 {
     match op {
-        Op::Add => added(c, inner),
-        Op::Sub => taken_from(c, inner),
-        Op::Eq | Op::Ne => match solved(c, inner.op, inner.constant) {
+        Op::Add => sum_with(c, inner),
+        Op::Sub => difference_from(c, inner),
+        Op::Eq | Op::Ne => match solution(c, inner.op, inner.constant) {
             Some(constant) => Some(with_constant(op, inner.var, constant)),
             None => None,
         },
-        _ => repeated(op, c, inner),
+        _ => same_again(op, c, inner),
     }
 }
 
 /// The sum with a constant: (x + k) + c and (k - x) + c.
-fn added(c: i64, inner: ByConstant) -> Option<ByConstant>
-    ensures { result ≡ added c inner.op inner.var inner.constant }
+fn sum_with(c: i64, inner: ByConstant) -> Option<ByConstant>
+    ensures { result ≡ sum_with c inner.op inner.var inner.constant }
 {
     match inner.op {
         Op::Add | Op::Sub => {
@@ -86,8 +86,8 @@ fn added(c: i64, inner: ByConstant) -> Option<ByConstant>
 }
 
 /// The difference from a constant: c - (x + k) and c - (k - x).
-fn taken_from(c: i64, inner: ByConstant) -> Option<ByConstant>
-    ensures { result ≡ taken_from c inner.op inner.var inner.constant }
+fn difference_from(c: i64, inner: ByConstant) -> Option<ByConstant>
+    ensures { result ≡ difference_from c inner.op inner.var inner.constant }
 {
     match inner.op {
         Op::Add => {
@@ -103,8 +103,8 @@ fn taken_from(c: i64, inner: ByConstant) -> Option<ByConstant>
 }
 
 /// The number of which the operator with the constant k makes c: v + k = c, k - v = c, v xor k = c.
-fn solved(c: i64, op: Op, k: i64) -> Option<i64>
-    ensures { result ≡ solved c op k }
+fn solution(c: i64, op: Op, k: i64) -> Option<i64>
+    ensures { result ≡ solution c op k }
 {
     match op {
         Op::Add => Some(value_of(Op::Sub, c, k)),
@@ -114,12 +114,12 @@ fn solved(c: i64, op: Op, k: i64) -> Option<i64>
     }
 }
 
-/// Twice the same operator.
-fn repeated(op: Op, c: i64, inner: ByConstant) -> Option<ByConstant>
-    ensures { result ≡ repeated op c inner.op inner.var inner.constant }
+/// The same operator again.
+fn same_again(op: Op, c: i64, inner: ByConstant) -> Option<ByConstant>
+    ensures { result ≡ same_again op c inner.op inner.var inner.constant }
 {
     if op == inner.op {
-        let constant = both(op, inner.constant, c)?;
+        let constant = joint_constant(op, inner.constant, c)?;
         Some(with_constant(op, inner.var, constant))
     } else {
         None
@@ -127,19 +127,13 @@ fn repeated(op: Op, c: i64, inner: ByConstant) -> Option<ByConstant>
 }
 
 /// The constant with which the operator does once what it does with k and then with c.
-fn both(op: Op, k: i64, c: i64) -> Option<i64>
-    ensures { result ≡ both op k c }
+fn joint_constant(op: Op, k: i64, c: i64) -> Option<i64>
+    ensures { result ≡ joint_constant op k c }
 {
     match op {
-        Op::Mul => Some(value_of(Op::Mul, k, c)),
-        Op::Min => Some(value_of(Op::Min, k, c)),
-        Op::Max => Some(value_of(Op::Max, k, c)),
-        Op::And => Some(value_of(Op::And, k, c)),
-        Op::Or => Some(value_of(Op::Or, k, c)),
-        Op::Xor => Some(value_of(Op::Xor, k, c)),
-        Op::Shl => within_word(both_far(k, c)),
-        Op::Shr => within_word(both_far(k, c)),
-        Op::Shra => Some(i64::from(both_far(k, c).min(63))),
+        Op::Mul | Op::Min | Op::Max | Op::And | Op::Or | Op::Xor => Some(value_of(op, k, c)),
+        Op::Shl | Op::Shr => shift_within(joint_distance(k, c)),
+        Op::Shra => Some(i64::from(joint_distance(k, c).min(63))),
         _ => None,
     }
 }

@@ -1,7 +1,7 @@
 // Constants that are computed.
 ghost use Rattle.std.specs.Prelude.{◌≡◌, ◌<◌, false};
 ghost use Rattle.mir_base.specs.Numbers.{distance, is_dividing, value_of_op};
-ghost use Rattle.term_flow.specs.Terms.{both_far, within_word};
+ghost use Rattle.term_flow.specs.Terms.{joint_distance, shift_within};
 
 use mir_base::{Op, eval};
 
@@ -17,16 +17,16 @@ pub(crate) fn value_of(op: Op, a: i64, b: i64) -> i64
 }
 
 /// How far two shifts by these numbers go.
-pub(crate) fn both_far(k: i64, c: i64) -> u8
-    ensures value { result ≡ both_far k c }
+pub(crate) fn joint_distance(k: i64, c: i64) -> u8
+    ensures value { result ≡ joint_distance k c }
     ensures below { result < 127 }
 {
     distance(k) + distance(c)
 }
 
-/// So far, where a shift goes so far.
-pub(crate) fn within_word(far: u8) -> Option<i64>
-    ensures { result ≡ within_word far }
+/// The constant of a shift that goes so far, where one does.
+pub(crate) fn shift_within(far: u8) -> Option<i64>
+    ensures { result ≡ shift_within far }
 {
     if far <= 63 {
         Some(i64::from(far))
