@@ -1,13 +1,13 @@
--- At each frame of a run the extended nodes do what the nodes of the graph do: an extension gives its source, where it keeps
--- all numbers that the source may be.
-use Rattle.std.proofs.Common.{◌≡◌, ℕ, ◌<◌, ◌≤◌, Bool, true, false, ◌&&◌, if◌then◌else◌, inl, inr, ℤ, pos, List, length, slice_get, Option, Some, None, option_map, refl, sym, ap, ◌∙◌, subst, arith, le_refl, int_le}
+-- At each frame of a run the extended nodes do what the nodes of the graph do: an extension gives its source, where it
+-- keeps all numbers that the source may be.
+use Rattle.std.proofs.Common.{◌≡◌, ℕ, ◌<◌, Bool, true, false, if◌then◌else◌, inl, inr, ℤ, pos, List, length, slice_get, Option, Some, None, option_map, refl, sym, ap, ◌∙◌, subst, arith, le_refl, int_le}
 use Rattle.std.specs.Prelude.{◌≤ℤ◌}
 use Rattle.std.proofs.lemmas.Bool.{and_parts}
 use Rattle.std.proofs.lemmas.Int.{ints}
 use Rattle.std.proofs.lemmas.Option.{slice_get_within}
 use Rattle.mir_base.specs.declared.operators.Op.{Op}
-use Rattle.mir_base.specs.declared.operators.Op.TheVariants.{Shl, Shr, Shra}
-use Rattle.mir_base.specs.declared.operators.Trap.TheVariants.{ZeroDivisor, Raised}
+use Rattle.mir_base.specs.declared.operators.Op.TheVariants.{Shl}
+use Rattle.mir_base.specs.declared.operators.Trap.TheVariants.{ZeroDivisor}
 use Rattle.mir_base.specs.declared.instructions.Operand.TheVariants.{Var, Const}
 use Rattle.mir_base.specs.declared.instructions.Rhs.{Rhs}
 use Rattle.mir_base.specs.declared.instructions.Rhs.TheVariants.{Plain, Binary}
@@ -24,7 +24,7 @@ use Rattle.flow_graph.specs.Graphs.{GraphShape}
 use Rattle.flow_graph.specs.MachineLaws.{graph_hands}
 use Rattle.flow_graph.specs.Machines.{graph_code, graph_machine, machine_of, node_transition}
 use Rattle.flow_graph.specs.RunFrames.{IsRunFrame}
-use Rattle.held_assign.specs.HeldValues.{AgreesThere, HeldValuesAgree}
+use Rattle.held_assign.specs.HeldValues.{HeldValuesAgree}
 use Rattle.bounds.specs.declared.facts.Fact.{Fact}
 use Rattle.bounds.specs.BoundRules.{bound_rules}
 use Rattle.bounds.specs.Edges.{fact_at}
@@ -35,7 +35,7 @@ use Rattle.cond_flow.specs.Rules.{BecomesRhs}
 use Rattle.extend_flow.specs.declared.shifts.Extension.{Extension}
 use Rattle.extend_flow.specs.declared.shifts.LeftShift.{LeftShift}
 use Rattle.extend_flow.specs.Extended.{AreExtended, IsHeldShift, extended_by, extended_node, extended_rhs, extended_where}
-use Rattle.extend_flow.specs.Extensions.{IsDistance, extension_of, keeps_all, signed_extension, unsigned_extension}
+use Rattle.extend_flow.specs.Extensions.{IsDistance, extension_of, keeps_all}
 use Rattle.extend_flow.specs.RunSteps.{cheaper_in_runs, same_in_runs}
 use Rattle.extend_flow.proofs.Undone.{Extends, ShiftsBack, extends, same_source}
 use Rattle.extend_flow.proofs.Numbers.{signed_kept, unsigned_kept}

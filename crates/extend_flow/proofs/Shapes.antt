@@ -1,5 +1,5 @@
--- The extended graph has the shape of the graph: the same edges, no other calls, the same divisions, and variables of the
--- graph.
+-- The extended graph has the shape of the graph: the same edges, no other calls, the same divisions, and variables of
+-- the graph.
 use Rattle.std.proofs.Common.{◌≡◌, ℕ, suc, ◌<◌, Bool, true, false, if◌then◌else◌, inl, inr, List, [], ◌∷◌, length, slice_get, Option, Some, None, option_map, refl, sym, ap, ◌∙◌, subst, true≢false, pos}
 use Rattle.std.proofs.lemmas.Bool.{and_parts}
 use Rattle.mir_base.specs.declared.operators.Op.{Op}

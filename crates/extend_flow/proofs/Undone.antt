@@ -1,8 +1,7 @@
--- What a right side is that extends a variable: it shifts back, with a sign or without, what another variable holds, a shift
--- of the variable to the left as far.
-use Rattle.std.proofs.Common.{◌≡◌, ℕ, ◌≤◌, ◌⊎◌, inl, inr, Bool, true, false, ◌&&◌, if◌then◌else◌, ℤ, pos, negsuc, int_le, unsigned_abs, Option, Some, None, refl, sym, ap, ◌∙◌, subst, arith}
+-- What a right side is that extends a variable: it shifts back, with a sign or without, what another variable holds, a
+-- shift of the variable to the left as far.
+use Rattle.std.proofs.Common.{◌≡◌, ℕ, ◌⊎◌, inl, inr, Bool, true, false, if◌then◌else◌, ℤ, pos, negsuc, unsigned_abs, Option, Some, None, refl, sym, ap, ◌∙◌, subst, arith}
 use Rattle.std.specs.Ordering.{int_eq}
-use Rattle.std.proofs.lemmas.Bool.{and_parts}
 use Rattle.std.proofs.lemmas.Int.{ints}
 use Rattle.std.proofs.lemmas.Option.{same_Some}
 use Rattle.mir_base.specs.declared.operators.Op.{Op}

@@ -1,5 +1,5 @@
 -- The graph in which extensions that change nothing are copies. Cited by contracts.
-use Rattle.std.specs.Prelude.{◌≡◌, ℕ, ◌<◌, Bool, if◌then◌else◌, List, length, slice_get, Option, Some, None, option_map}
+use Rattle.std.specs.Prelude.{◌≡◌, ℕ, ◌<◌, if◌then◌else◌, List, length, slice_get, Option, Some, None, option_map}
 use Rattle.mir_base.specs.declared.instructions.Operand.TheVariants.{Var}
 use Rattle.mir_base.specs.declared.instructions.Rhs.{Rhs}
 use Rattle.mir_base.specs.declared.instructions.Rhs.TheVariants.{Plain}
@@ -51,8 +51,8 @@ extended_node held known (Return a) = Return a
 abbrev pub IsHeldShift : GraphShape → ℕ → ℕ → Option Rhs → Type 0
 IsHeldShift graph n v rhs = IsHeldRhs (λ x t. shifts_variable t) graph n v rhs
 
--- this is what node n becomes, and none where there is no node: where it assigns an extension, by the least bounds of the
--- variables before it
+-- this is what node n becomes, and none where there is no node: where it assigns an extension, by the least bounds of
+-- the variables before it
 pub record IsExtendedAt (graph : GraphShape) (held : ℕ → Option Rhs) (n : ℕ)
     (made : Option Node) : Type 0 where
   pub known : Option (List Fact)

@@ -1,5 +1,5 @@
 -- Which right sides extend a variable, and the numbers that the extension keeps. Cited by contracts.
-use Rattle.std.specs.Prelude.{ℕ, ◌-◌, ◌^◌, ◌≤◌, Bool, true, false, ◌&&◌, if◌then◌else◌, ℤ, pos, neg_ℤ, int_le, unsigned_abs, List, Option, Some, None}
+use Rattle.std.specs.Prelude.{ℕ, ◌-◌, ◌^◌, ◌≤◌, Bool, ◌&&◌, if◌then◌else◌, ℤ, pos, neg_ℤ, int_le, unsigned_abs, Option, Some, None}
 use Rattle.std.specs.Option.{is_some}
 use Rattle.std.specs.Ordering.{int_eq}
 use Rattle.mir_base.specs.declared.operators.Op.{Op}

@@ -13,14 +13,15 @@ use mir_base::Memory;
 use std::alloc::Global;
 
 /// The graph in which an extension of a variable that changes nothing is a copy of it. Only assignments
-/// `x <- t shra s` and `x <- t shr s` change, with a variable t before which `t <- a shl s` holds, where s is the same
-/// constant from 1 to 63 and a is a variable. `shra` extends the lowest 64 - s bits of a with their sign: it becomes
-/// `x <- a` where a lies from -2^(63 - s) to 2^(63 - s) - 1. `shr` extends them without a sign: it becomes `x <- a` where
-/// a lies from 0 to 2^(64 - s) - 1.
+/// `x <- t shra s` and `x <- t shr s` change, before which `t <- a shl s` holds for a variable a and the same constant s
+/// from 1 to 63. `shra` extends the lowest 64 - s bits of a with their sign: it becomes `x <- a` where a lies from
+/// -2^(63 - s) to 2^(63 - s) - 1. `shr` extends them without a sign: it becomes `x <- a` where a lies from 0 to
+/// 2^(64 - s) - 1.
 ///
-/// Where a lies is told by the least bounds before the node, those that `value_bounds` uses; a node to which no run comes
-/// by them stays as it is. An assignment holds before a node as `held_assign` says: on every path to the node there is
-/// such an assignment after which neither t nor a is assigned. All is decided on the graph as it was, in one step.
+/// Where a lies is told by the least bounds before the node, those that `value_bounds` uses; a node to which no run
+/// comes by them stays as it is. The assignment `t <- a shl s` holds before a node where a is not t and on every path
+/// from Start to the node there is, before the node, such an assignment after which, before the node, no node assigns t
+/// or a; a call assigns the globals too. All is decided on the graph as it was, in one step.
 ///
 /// The graph does the same and evaluates no more operators. It fails only with `Memory`.
 pub fn extensions(alloc: Global, graph: &Graph) -> Result<Graph, Memory>

@@ -36,18 +36,7 @@ pub(crate) fn nodes_by_held(
     Ok(nodes)
 }
 
-/// A copy of the nodes.
-fn copied(alloc: Global, nodes: &[Node]) -> Result<Vec<Node>, Memory>
-    ensures { IfOk result (λ copied. copied.items ≡ nodes.now) }
-{
-    let mut copied = Vec::with_capacity(alloc, nodes.len())?;
-    for node in nodes {
-        copied.push(node.clone()?)?;
-    }
-    Ok(copied)
-}
-
-/// The same by the least bounds too.
+/// What the nodes of a graph become, by the shifts that hold and the least bounds.
 fn nodes_by_states(
     alloc: Global,
     graph: &Graph,
@@ -65,6 +54,17 @@ fn nodes_by_states(
         nodes.push(node)?;
     }
     Ok(nodes)
+}
+
+/// A copy of the nodes.
+fn copied(alloc: Global, nodes: &[Node]) -> Result<Vec<Node>, Memory>
+    ensures { IfOk result (λ copied. copied.items ≡ nodes.now) }
+{
+    let mut copied = Vec::with_capacity(alloc, nodes.len())?;
+    for node in nodes {
+        copied.push(node.clone()?)?;
+    }
+    Ok(copied)
 }
 
 /// What node n becomes. It fails only with `Memory`.
@@ -161,13 +161,7 @@ fn extension_of(held: &HeldAssigns, n: usize, rhs: Rhs) -> Option<Extension>
 }
 
 /// The extension that an operator on two operands is.
-fn extension_on(
-    held: &HeldAssigns,
-    n: usize,
-    op: Op,
-    a: Operand,
-    b: Operand,
-) -> Option<Extension>
+fn extension_on(held: &HeldAssigns, n: usize, op: Op, a: Operand, b: Operand) -> Option<Extension>
     requires lookup { IsLookup (length held.now.targets) (length held.now.held) held.now }
     requires there { n < length held.now.held }
     ensures { result ≡ extension_on (held_at held.now n) op a b }

@@ -1,6 +1,5 @@
 use Rattle.std.proofs.Common.{◌∙◌, ap, sym}
 use Rattle.std.specs.Option.{option_map}
-use Rattle.held_assign.specs.Rows.{held_at}
 use Rattle.extend_flow.specs.Extended.{extended_where}
 use Rattle.extend_flow.proofs.rewriting.extended_rhs.Goals as goal
 
