@@ -1,13 +1,12 @@
 -- Law: the program of the graphs that know their arguments goes step by step with the program of the graphs. Frames
 -- stand at one place with equal values, and each frame of a unit has the constants that its arguments always are. So
 -- what is assigned behind Start changes nothing.
-use Rattle.std.proofs.Common.{◌≡◌, ℕ, suc, ◌+◌, ◌<◌, ◌≤◌, Bool, true, false, cond, if◌then◌else◌, inl, inr, List, [], ◌∷◌, length, map, slice_get, slice_index_or, ℤ, pos, Option, Some, None, option_map, refl, sym, ap, ◌∙◌, subst, arith, le_refl}
+use Rattle.std.proofs.Common.{◌≡◌, ℕ, ◌+◌, ◌<◌, ◌≤◌, true, false, cond, inl, inr, List, [], ◌∷◌, length, map, slice_get, slice_index_or, ℤ, pos, Option, Some, option_map, refl, sym, ap, ◌∙◌, subst, arith, le_refl}
 use Rattle.std.proofs.lemmas.Bool.{cases_eq}
 use Rattle.std.proofs.lemmas.Option.{get_or_from_slice_get, slice_get-map, slice_get_within}
 use Rattle.mir_base.specs.declared.instructions.Operand.{Operand}
 use Rattle.mir_base.specs.declared.instructions.Operand.TheVariants.{Const}
 use Rattle.mir_base.specs.declared.instructions.Rhs.{Rhs}
-use Rattle.mir_base.specs.declared.instructions.Rhs.TheVariants.{Plain, Unary, Binary}
 use Rattle.mir_base.specs.declared.instructions.Test as tests
 use Rattle.mir_base.specs.declared.operators.Trap.TheVariants.{ZeroDivisor, Raised}
 use Rattle.mir_base.specs.Expressions.{rhs_count, rhs_traps, rhs_value}
@@ -31,7 +30,7 @@ use Rattle.program_pass.specs.ChainLaws.{gone_on}
 use Rattle.program_pass.specs.GraphPrograms.{IsGraphProgram, graph_numbered, graph_machines}
 use Rattle.program_pass.specs.GraphProgramLaws.{Agree, Together, node_together, onward_agree, resumed_agree}
 use Rattle.constant_args.specs.ConstantArguments.{begun, constant_puts}
-use Rattle.constant_args.proofs.Begun.{Leads, begun_kept, begun_leads}
+use Rattle.constant_args.proofs.Begun.{begun_kept, begun_leads}
 use Rattle.constant_args.proofs.Constants.{puts_change_none, puts_plain, received_value}
 
 -- a node of some graph calls unit u with these operands

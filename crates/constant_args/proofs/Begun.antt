@@ -1,6 +1,6 @@
 -- Nodes with assignments behind Start: a graph can be made of them, they make no other calls, the old nodes stay, and
 -- the assignments lead to where Start led.
-use Rattle.std.proofs.Common.{◌≡◌, ◌⊎◌, inl, inr, ℕ, zero, suc, ◌+◌, ◌<◌, ◌≤◌, List, [], ◌∷◌, ◌++◌, length, length-append, slice_get, slice_set, Option, Some, None, refl, sym, ap, ◌∙◌, subst, arith}
+use Rattle.std.proofs.Common.{◌≡◌, ◌⊎◌, inl, inr, ℕ, zero, suc, ◌<◌, ◌≤◌, List, [], ◌∷◌, length, length-append, slice_get, slice_set, Option, Some, None, refl, sym, ap, ◌∙◌, subst, arith}
 use Rattle.std.proofs.lemmas.Bool.{cases_eq}
 use Rattle.std.proofs.lemmas.List.{length-set}
 use Rattle.std.proofs.lemmas.Option.{slice_get_within}
@@ -17,7 +17,6 @@ use Rattle.flow_graph.specs.Plans.{start_succ}
 use Rattle.graph_edit.specs.InsertionRuns.{values_after}
 use Rattle.graph_edit.specs.Insertions.{Insertion, InsertionsBelow}
 use Rattle.program_pass.specs.ChainLaws.{ArePlain, gone_on, stands_silently, stood_kept, stood_stands}
-use Rattle.program_pass.specs.Chains.{stood}
 use Rattle.program_pass.specs.StoodLaws.{stood_calls, stood_can}
 use Rattle.constant_args.specs.ConstantArguments.{begun, opened}
 

@@ -1,5 +1,5 @@
 -- What is made of each unit is what its arguments always are, and of all units the one program, which keeps its runs.
-use Rattle.std.proofs.Common.{◌≡◌, ◌↔◌, inl, inr, ℕ, ◌<◌, List, [], ◌∷◌, ◌++◌, length, slice_get, ℤ, Option, Some, refl, sym, ap, ◌∙◌, subst, arith}
+use Rattle.std.proofs.Common.{◌≡◌, inl, inr, ℕ, ◌<◌, List, [], ◌∷◌, ◌++◌, length, slice_get, ℤ, Option, Some, refl, sym, ap, ◌∙◌, subst, arith}
 use Rattle.std.proofs.lemmas.Option.{slice_get_within}
 use Rattle.mir_base.specs.declared.instructions.Operand.{Operand}
 use Rattle.mir_base.specs.Shapes.{IsProgram, ProgramShape, UnitShape}
@@ -15,13 +15,12 @@ use Rattle.flow_graph.specs.OneLaws.{lowered_is_one, made_is_one}
 use Rattle.flow_graph.specs.Retained.{IsMade}
 use Rattle.jump_clean.specs.Cleaned.{IsClean}
 use Rattle.jump_clean.specs.CleanLaws.{clean_is_one}
-use Rattle.program_pass.specs.GraphPrograms.{graph_numbered}
 use Rattle.program_pass.specs.PassPrograms.{AllPassed, CleanedLaid, KeepsRuns, LoweredClean, PassKeeps}
 use Rattle.program_pass.specs.PassProgramLaws.{at, between_at, graph_is, graph_program, graphs, graphs_count, middles, passes_keep}
 use Rattle.program_pass.specs.RefitLaws.{called_fits}
-use Rattle.constant_args.specs.ConstantArguments.{AlwaysGive, AreConstants, Begins, IsCallOf, Knowing, KnowsArguments, begun, constant_puts}
+use Rattle.constant_args.specs.ConstantArguments.{AreConstants, Begins, IsCallOf, Knowing, begun, constant_puts}
 use Rattle.constant_args.specs.Gathered.{AreFronts, CallsExist, IsCallBefore, KnowingUnit, KnowsMade}
-use Rattle.constant_args.proofs.ArgumentStacks.{CallsIn, Knows, knowing_keep}
+use Rattle.constant_args.proofs.ArgumentStacks.{CallsIn, knowing_keep}
 use Rattle.constant_args.proofs.Begun.{begun_calls, begun_can}
 use Rattle.constant_args.proofs.Constants.{puts_below, puts_same}
 

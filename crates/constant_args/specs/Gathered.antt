@@ -1,5 +1,5 @@
 -- What the calls of a program give, as it is gathered. Cited by contracts of private functions.
-use Rattle.std.specs.Prelude.{◌≡◌, ◌⊎◌, ◌↔◌, ℕ, suc, ◌<◌, ◌≤◌, true, false, List, [], ◌∷◌, ◌++◌, length, map, slice_get, ℤ, Option, Some, None}
+use Rattle.std.specs.Prelude.{◌≡◌, ◌⊎◌, ◌↔◌, ℕ, ◌<◌, ◌≤◌, true, false, List, [], ◌++◌, length, map, slice_get, ℤ, Option, Some, None}
 use Rattle.mir_base.specs.declared.instructions.Operand.{Operand}
 use Rattle.mir_base.specs.declared.instructions.Operand.TheVariants.{Var, Const}
 use Rattle.mir_base.specs.Shapes.{UnitShape}
@@ -12,7 +12,7 @@ use Rattle.flow_graph.specs.Machines.{graph_machine, machine_of}
 use Rattle.flow_graph.specs.Retained.{IsMade}
 use Rattle.program_pass.specs.PassPrograms.{AllPassed, LoweredClean, PassedAt}
 use Rattle.constant_args.specs.declared.given.Given.{Given}
-use Rattle.constant_args.specs.ConstantArguments.{AreConstants, Begins, IsCallOf, Knowing, begun, constant_puts}
+use Rattle.constant_args.specs.ConstantArguments.{AreConstants, Begins, Knowing, begun, constant_puts}
 
 -- ---- the graphs
 

@@ -1,4 +1,4 @@
-use Rattle.std.proofs.Common.{◌≡◌, ◌∙◌, ap, sym, subst}
+use Rattle.std.proofs.Common.{◌≡◌, ◌∙◌, ap, subst}
 use Rattle.flow_graph.specs.Graphs.{CanMake}
 use Rattle.program_pass.specs.Puts.{insertions}
 use Rattle.constant_args.specs.ConstantArguments.{begun, constant_puts}
