@@ -7,6 +7,7 @@ use Rattle.flow_graph.specs.declared.nodes.Node.{Node}
 use Rattle.flow_graph.specs.declared.nodes.Node.TheVariants.{Start, Skip, Assign, Print, Guard, Call, Test, Return}
 use Rattle.flow_graph.specs.Graphs.{GraphShape}
 use Rattle.path_laws.specs.Paths.{has_bit}
+use Rattle.bit_rows.specs.Bits.{row_of}
 use Rattle.unread_div.specs.Unread.{IsDeadDivision, IsUnreadAt}
 
 -- ---- one node
@@ -38,6 +39,17 @@ is_dead_by live (Guard test number next) = false
 is_dead_by live (Call into unit operands next) = false
 is_dead_by live (Test test taken other) = false
 is_dead_by live (Return a) = false
+
+-- the rows have the bit that is asked for there
+abbrev pub FitsRows : List (List Bool) → Node → Type 0
+FitsRows live (Start next) = Unit {0}
+FitsRows live (Skip next) = Unit {0}
+FitsRows live (Assign x rhs next) = (next < length live) × (x < length (row_of live next))
+FitsRows live (Print a next) = Unit {0}
+FitsRows live (Guard test number next) = Unit {0}
+FitsRows live (Call into unit operands next) = Unit {0}
+FitsRows live (Test test taken other) = Unit {0}
+FitsRows live (Return a) = Unit {0}
 
 -- ---- all nodes
 

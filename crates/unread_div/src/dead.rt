@@ -1,10 +1,9 @@
 // Which divisions are dead.
-ghost use Rattle.std.specs.Prelude.{◌≡◌, ◌↔◌, ◌<◌, false, true, length, IfOk};
+ghost use Rattle.std.specs.Prelude.{◌≡◌, false, length, IfOk};
 ghost use Rattle.mir_base.specs.Numbers.{is_dividing};
 ghost use Rattle.path_laws.specs.Paths.{HaveShape};
 ghost use Rattle.dead_code.specs.LiveRows.{TellLive};
-ghost use Rattle.unread_div.specs.Flags.{NoDivision, NoFlag, TellDeadDivisions, divides_there, is_division};
-ghost use Rattle.unread_div.specs.Unread.{IsDeadDivision};
+ghost use Rattle.unread_div.specs.Flags.{FitsRows, NoDivision, NoFlag, TellDeadDivisions, divides_there, is_dead_by, is_division};
 
 use bit_rows::Rows;
 use dead_code::live_rows;
@@ -42,22 +41,20 @@ fn dead_by(alloc: Global, graph: &Graph, live: &Rows) -> Result<Vec<bool>, Memor
     requires live { TellLive graph.now live.now }
     ensures { IfOk result (λ dead. TellDeadDivisions graph.now dead.items) }
 {
+    let _nodes = graph.nodes();
     let mut dead = Vec::with_capacity(alloc, graph.len())?;
     for n in 0..graph.len() {
-        dead.push(is_dead(graph, live, n))?;
+        dead.push(is_dead(graph.node(n), live))?;
     }
     Ok(dead)
 }
 
 /// Whether a node is a division whose variable is not live behind it.
-fn is_dead(graph: &Graph, live: &Rows, n: usize) -> bool
-    requires shape { HaveShape graph.now (length graph.now.vars) live.now }
-    requires live { TellLive graph.now live.now }
-    requires there { n < length graph.now.nodes }
-    ensures { (result ≡ true) ↔ IsDeadDivision graph.now n }
+fn is_dead(node: &Node, live: &Rows) -> bool
+    requires { FitsRows live.now node.now }
+    ensures { result ≡ is_dead_by live.now node.now }
 {
-    let nodes = graph.nodes();
-    match &nodes[n] {
+    match node {
         Node::Assign(x, rhs, next) => is_division(rhs) && !live.get(*next, *x),
         _ => false,
     }
