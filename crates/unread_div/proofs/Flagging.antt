@@ -19,12 +19,13 @@ use Rattle.path_laws.specs.Paths.{HaveShape, has_bit}
 use Rattle.path_laws.specs.Says.{not_says, off_says}
 use Rattle.dead_code.specs.LiveRows.{TellLive}
 use Rattle.dead_code.specs.Liveness.{IsLiveAfter, IsLiveBefore}
-use Rattle.unread_div.specs.Flags.{AreFlagsBelow, FitsRows, NoDivision, NoFlag, TellDeadDivisions, TellUnread, divides_there, is_dead_by, is_division}
+use Rattle.unread_div.specs.Flags.{AreFlagsBelow, FitsRows, NoDivision, NoFlag, TellDeadDivisions, TellUnread, divides_there, divisor_in, is_dead_by, is_division}
 use Rattle.cond_flow.specs.KnownBefore.{IsKnownBefore, IsOnlyKnownBefore}
 use Rattle.zero_flow.specs.declared.facts.ZeroFact.{ZeroFact}
 use Rattle.zero_flow.specs.ZeroFacts.{BelowZeroFact}
 use Rattle.zero_flow.specs.ZeroRules.{zero_rules}
-use Rattle.unread_div.specs.Unread.{IsDeadDivision, IsNeverZero, IsUnreadAt, may_be_nought_before}
+use Rattle.graph_edit.specs.Flagged.{flag_at, graph_flagged}
+use Rattle.unread_div.specs.Unread.{IsDeadDivision, IsNeverZero, IsUnread, IsUnreadAt, may_be_nought_before}
 
 -- ---- one flag after the other
 
@@ -159,16 +160,24 @@ none_dead graph flags tells none = record {
       );
 }
 
+-- the divisor of a dead division
+divisor_is : (graph : GraphShape) (n : ℕ) (node : Node) → slice_get graph.nodes n ≡ Some node → (d : IsDeadDivision graph n) → divisor_in node ≡ Some d.right
+divisor_is graph n node here d = ap divisor_in (division_is graph n node here d)
+
 -- a division goes where its divisor is not 0
-pub unread_says : (graph : GraphShape) (n : ℕ) (x : ℕ) (op : Op) (a b : Operand) (next : ℕ) (never : Bool) → slice_get graph.nodes n ≡ Some (Assign x (Binary op a b) next)
+pub unread_says : (graph : GraphShape) (n : ℕ) (node : Node) (b : Operand) (never : Bool) → slice_get graph.nodes n ≡ Some node → divisor_in node ≡ Some b
     → IsDeadDivision graph n → (never ≡ true) ↔ IsNeverZero graph n b → (never ≡ true) ↔ IsUnreadAt graph n
-unread_says graph n x op a b next never here d says = (
+unread_says graph n node b never here divides d says = (
   λ on. record { division = d; safe = subst (IsNeverZero graph n) (sym (right_is d)) (says.0 on) },
   λ u. says.1 (subst (IsNeverZero graph n) (right_is u.division) u.safe),
 )
   where
     right_is : (e : IsDeadDivision graph n) → e.right ≡ b
-    right_is e = let same : Assign x (Binary op a b) next ≡ Assign e.var (Binary e.op e.left e.right) e.next = division_is graph n (Assign x (Binary op a b) next) here e in cc
+    right_is e = same_Some e.right b (sym (divisor_is graph n node here e) ∙ divides)
+
+-- and it has one
+pub none_divided : {C : Type 0} (graph : GraphShape) (n : ℕ) (node : Node) → slice_get graph.nodes n ≡ Some node → divisor_in node ≡ None → IsDeadDivision graph n → C
+none_divided graph n node here none d = let bad : Some d.right ≡ None = sym (divisor_is graph n node here d) ∙ none in cc
 
 -- whether the divisor may be 0 by what is known tells whether it is never 0
 pub never_says : (graph : GraphShape) (n : ℕ) (b : Operand) (known : Option (List ZeroFact)) → IsKnownBefore BelowZeroFact zero_rules graph n known
@@ -177,3 +186,13 @@ never_says graph n b known is only = (
   λ e. record { known = known; is_known = is; never = (not_says (may_be_nought_before known b)).0 e },
   λ u. ap not (subst (λ k. may_be_nought_before k b ≡ false) (only u.known u.is_known) u.never),
 )
+
+-- ---- the whole
+
+-- the graph in which the flagged nodes are Skips is the one without the divisions that nothing reads
+pub flagged_unread : (graph : GraphShape) (flags : List Bool) → TellUnread graph flags → IsUnread graph (graph_flagged flags graph)
+flagged_unread graph flags tells = record {
+  gone = flag_at flags;
+  gone_are = λ n lt. tells.are n (flag_at flags n) (slice_get-get_or flags n false (let long = tells.long in omega (arith, lt, long)));
+  is = refl;
+}

@@ -1,5 +1,6 @@
 -- Flags for the nodes: which are dead divisions, and which of them go. Cited by contracts of private functions.
-use Rattle.std.specs.Prelude.{◌≡◌, ◌↔◌, ℕ, ◌<◌, Bool, true, false, not, ◌&&◌, List, length, slice_get, slice_index_or, Some}
+use Rattle.std.specs.Prelude.{◌≡◌, ◌↔◌, ℕ, ◌<◌, Bool, true, false, not, ◌&&◌, List, length, slice_get, slice_index_or, Option, Some, None}
+use Rattle.mir_base.specs.declared.instructions.Operand.{Operand}
 use Rattle.mir_base.specs.declared.instructions.Rhs.{Rhs}
 use Rattle.mir_base.specs.declared.instructions.Rhs.TheVariants.{Plain, Unary, Binary}
 use Rattle.mir_base.specs.Numbers.{is_dividing}
@@ -39,6 +40,23 @@ is_dead_by live (Guard test number next) = false
 is_dead_by live (Call into unit operands next) = false
 is_dead_by live (Test test taken other) = false
 is_dead_by live (Return a) = false
+
+-- the second operand of a right side, where it is binary
+abbrev pub divisor_of : Rhs → Option Operand
+divisor_of (Plain a) = None
+divisor_of (Unary op a) = None
+divisor_of (Binary op a b) = Some b
+
+-- and of what a node assigns
+abbrev pub divisor_in : Node → Option Operand
+divisor_in (Start next) = None
+divisor_in (Skip next) = None
+divisor_in (Assign x rhs next) = divisor_of rhs
+divisor_in (Print a next) = None
+divisor_in (Guard test number next) = None
+divisor_in (Call into unit operands next) = None
+divisor_in (Test test taken other) = None
+divisor_in (Return a) = None
 
 -- the rows have the bit that is asked for there
 abbrev pub FitsRows : List (List Bool) → Node → Type 0

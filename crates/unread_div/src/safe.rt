@@ -4,7 +4,7 @@ ghost use Rattle.std.specs.Option.{option_map};
 ghost use Rattle.cond_flow.specs.KnownBefore.{AreStatesOf};
 ghost use Rattle.zero_flow.specs.ZeroFacts.{BelowZeroFact};
 ghost use Rattle.zero_flow.specs.ZeroRules.{zero_rules};
-ghost use Rattle.unread_div.specs.Flags.{TellDeadDivisions, TellUnread};
+ghost use Rattle.unread_div.specs.Flags.{TellDeadDivisions, TellUnread, divisor_in, divisor_of};
 ghost use Rattle.unread_div.specs.Unread.{IsDeadDivision, IsNeverZero, IsUnreadAt, may_be_nought_before};
 
 use cond_flow::LeastStates;
@@ -59,15 +59,36 @@ fn is_unread(
     ensures { IfOk result (λ unread. (unread ≡ true) ↔ IsUnreadAt graph.now n) }
 {
     if dead {
-        match graph.node(n) {
-            Node::Assign(_, Rhs::Binary(_, _, b), _) => {
-                let never = is_never_zero(alloc, graph, states, n, *b)?;
+        match divisor_in(graph.node(n)) {
+            None => Ok(false),
+            Some(b) => {
+                let never = is_never_zero(alloc, graph, states, n, b)?;
                 Ok(never)
             }
-            _ => Ok(false),
         }
     } else {
         Ok(false)
+    }
+}
+
+/// The second operand of what a node assigns, where it is binary.
+fn divisor_in(node: &Node) -> Option<Operand>
+    ensures { result ≡ divisor_in node.now }
+{
+    match node {
+        Node::Assign(_, rhs, _) => divisor_of(rhs),
+        _ => None,
+    }
+}
+
+/// The second operand of a right side, where it is binary.
+fn divisor_of(rhs: &Rhs) -> Option<Operand>
+    ensures { result ≡ divisor_of rhs.now }
+{
+    match rhs {
+        Rhs::Plain(_) => None,
+        Rhs::Unary(_, _) => None,
+        Rhs::Binary(_, _, b) => Some(*b),
     }
 }
 

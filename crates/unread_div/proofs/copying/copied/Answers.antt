@@ -1,2 +1,0 @@
-use Rattle.flow_graph.specs.OneLaws.{same_graphs}
-use Rattle.unread_div.proofs.copying.copied.Goals as goal
