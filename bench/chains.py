@@ -24,7 +24,8 @@ from against_llvm import Draw
 from interpret import LEAST, Machine, Report
 
 TOP = Path(__file__).resolve().parent.parent
-PASSES = 'tails join optimise clean fold number copies motion divisions sink comparisons bounds wanted demanded called'.split()
+PASSES = ('tails join arguments optimise clean fold number copies motion divisions sink comparisons terms bounds '
+          'extensions unread wanted demanded called').split()
 
 # The steps of the source, and those of the target, in which insertions and copies of joined units take some.
 STEPS, MORE_STEPS = 400, 8_000

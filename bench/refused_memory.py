@@ -119,7 +119,8 @@ return y
 end
 """
 
-PASSES = 'tails join clean fold number copies motion divisions sink comparisons bounds wanted demanded optimise called'.split()
+PASSES = ('tails join arguments clean fold number copies motion divisions sink comparisons terms bounds extensions '
+          'unread wanted demanded optimise called').split()
 CALLS = [
     Call(['optimise'], CALLING),
     Call(['move'], CALLING),

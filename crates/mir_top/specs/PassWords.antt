@@ -3,7 +3,7 @@ use Rattle.std.specs.Prelude.{ℕ, Bool, ◌&&◌, List, [], ◌∷◌, map, len
 use Rattle.std.specs.List.{list_all}
 use Rattle.mir_base.specs.Words.{is_text}
 use Rattle.pass_chain.specs.declared.passes.Pass.{Pass}
-use Rattle.pass_chain.specs.declared.passes.Pass.TheVariants.{Tails, Join, Optimise, Clean, Fold, Number, Copies, Motion, Divisions, Sink, Comparisons, Bounds, Wanted, Demanded, Called}
+use Rattle.pass_chain.specs.declared.passes.Pass.TheVariants.{Tails, Join, Arguments, Optimise, Clean, Fold, Number, Copies, Motion, Divisions, Sink, Comparisons, Terms, Bounds, Extensions, Unread, Wanted, Demanded, Called}
 
 -- the most passes of a call
 abbrev pub most_passes : ℕ
@@ -14,6 +14,7 @@ abbrev pub pass_of : List ℕ → Option Pass
 pass_of word =
     if is_text (codes "tails") word then Some Tails else
     if is_text (codes "join") word then Some Join else
+    if is_text (codes "arguments") word then Some Arguments else
     if is_text (codes "optimise") word then Some Optimise else
     if is_text (codes "clean") word then Some Clean else
     if is_text (codes "fold") word then Some Fold else
@@ -23,7 +24,10 @@ pass_of word =
     if is_text (codes "divisions") word then Some Divisions else
     if is_text (codes "sink") word then Some Sink else
     if is_text (codes "comparisons") word then Some Comparisons else
+    if is_text (codes "terms") word then Some Terms else
     if is_text (codes "bounds") word then Some Bounds else
+    if is_text (codes "extensions") word then Some Extensions else
+    if is_text (codes "unread") word then Some Unread else
     if is_text (codes "wanted") word then Some Wanted else
     if is_text (codes "demanded") word then Some Demanded else
     if is_text (codes "called") word then Some Called else None

@@ -189,11 +189,11 @@ end
 # as many passes as there may be, each by its word
 main: begin
 end
-$ passes tails join optimise clean fold number copies motion divisions sink comparisons bounds wanted demanded called \
-tails join optimise clean fold number copies motion divisions sink comparisons bounds wanted demanded called tails \
-join optimise clean fold number copies motion divisions sink comparisons bounds wanted demanded called tails join \
-optimise clean fold number copies motion divisions sink comparisons bounds wanted demanded called tails join optimise \
-clean
+$ passes tails join arguments optimise clean fold number copies motion divisions sink comparisons terms bounds \
+extensions unread wanted demanded called tails join arguments optimise clean fold number copies motion divisions sink \
+comparisons terms bounds extensions unread wanted demanded called tails join arguments optimise clean fold number \
+copies motion divisions sink comparisons terms bounds extensions unread wanted demanded called tails join arguments \
+optimise clean fold number
 @ 0
 main: begin
 return 0

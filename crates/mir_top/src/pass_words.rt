@@ -62,6 +62,8 @@ fn pass_of(word: &[u8]) -> Option<Pass>
         Some(Pass::Tails)
     } else if is_text(b"join", word) {
         Some(Pass::Join)
+    } else if is_text(b"arguments", word) {
+        Some(Pass::Arguments)
     } else if is_text(b"optimise", word) {
         Some(Pass::Optimise)
     } else if is_text(b"clean", word) {
@@ -80,8 +82,14 @@ fn pass_of(word: &[u8]) -> Option<Pass>
         Some(Pass::Sink)
     } else if is_text(b"comparisons", word) {
         Some(Pass::Comparisons)
+    } else if is_text(b"terms", word) {
+        Some(Pass::Terms)
     } else if is_text(b"bounds", word) {
         Some(Pass::Bounds)
+    } else if is_text(b"extensions", word) {
+        Some(Pass::Extensions)
+    } else if is_text(b"unread", word) {
+        Some(Pass::Unread)
     } else if is_text(b"wanted", word) {
         Some(Pass::Wanted)
     } else if is_text(b"demanded", word) {

@@ -7,20 +7,24 @@ use Rattle.cond_const.specs.Folded.{IsFolded}
 use Rattle.value_number.specs.Numbered.{IsNumbered}
 use Rattle.copy_flow.specs.Copied.{IsCopied}
 use Rattle.compare_flow.specs.Compared.{IsCompared}
+use Rattle.term_flow.specs.Termed.{IsTermed}
 use Rattle.edge_split.specs.Split.{IsEdgeSplit}
 use Rattle.sink_rounds.specs.RoundGraphs.{AreRounds, last_round}
 use Rattle.value_bounds.specs.Bounded.{IsBounded}
+use Rattle.extend_flow.specs.Extended.{IsExtended}
+use Rattle.unread_div.specs.Unread.{IsUnread}
 use Rattle.wanted_bits.specs.Narrowed.{IsNarrowed}
 use Rattle.program_pass.specs.PassPrograms.{IsPassedProgram}
 use Rattle.tail_loop.specs.Tails.{Tailed}
 use Rattle.unit_join.specs.JoinPrograms.{IsJoinedProgram}
+use Rattle.constant_args.specs.ConstantArguments.{HasConstantArguments}
 use Rattle.mir_opt.specs.declared.trails.MoveTrail.{MoveTrail}
 use Rattle.mir_opt.specs.declared.trails.Trail.{Trail}
 use Rattle.mir_opt.specs.Links.{IsDivisionLinked, IsLinked, IsMoveLinked}
 use Rattle.called_units.specs.CalledUnits.{HasCalledUnits}
 use Rattle.program_wanted.specs.WantedPrograms.{IsWantedProgram}
 use Rattle.pass_chain.specs.declared.passes.Pass.{Pass}
-use Rattle.pass_chain.specs.declared.passes.Pass.TheVariants.{Tails, Join, Optimise, Clean, Fold, Number, Copies, Motion, Divisions, Sink, Comparisons, Bounds, Wanted, Demanded, Called}
+use Rattle.pass_chain.specs.declared.passes.Pass.TheVariants.{Tails, Join, Arguments, Optimise, Clean, Fold, Number, Copies, Motion, Divisions, Sink, Comparisons, Terms, Bounds, Extensions, Unread, Wanted, Demanded, Called}
 
 -- ---- passes on graphs
 
@@ -69,6 +73,7 @@ HasDivisionsMoved =
 abbrev pub IsPassedBy : Pass → ProgramShape → ProgramShape → Type 0
 IsPassedBy Tails = IsPassedProgram Tailed
 IsPassedBy Join = IsJoinedProgram
+IsPassedBy Arguments = HasConstantArguments
 IsPassedBy Optimise = IsOptimised
 IsPassedBy Clean = PassesGraphs IsUnchanged
 IsPassedBy Fold = PassesGraphs IsFolded
@@ -78,7 +83,10 @@ IsPassedBy Motion = IsMoved
 IsPassedBy Divisions = HasDivisionsMoved
 IsPassedBy Sink = PassesGraphs SunkInRounds
 IsPassedBy Comparisons = PassesGraphs IsCompared
+IsPassedBy Terms = PassesGraphs IsTermed
 IsPassedBy Bounds = PassesGraphs IsBounded
+IsPassedBy Extensions = PassesGraphs IsExtended
+IsPassedBy Unread = PassesGraphs IsUnread
 IsPassedBy Wanted = PassesGraphs IsNarrowed
 IsPassedBy Demanded = IsWantedProgram
 IsPassedBy Called = HasCalledUnits

@@ -5,8 +5,11 @@ ghost use Rattle.cond_const.specs.Folded.{IsFolded};
 ghost use Rattle.value_number.specs.Numbered.{IsNumbered};
 ghost use Rattle.copy_flow.specs.Copied.{IsCopied};
 ghost use Rattle.compare_flow.specs.Compared.{IsCompared};
+ghost use Rattle.term_flow.specs.Termed.{IsTermed};
 ghost use Rattle.sink_rounds.specs.RoundGraphs.{last_round};
 ghost use Rattle.value_bounds.specs.Bounded.{IsBounded};
+ghost use Rattle.extend_flow.specs.Extended.{IsExtended};
+ghost use Rattle.unread_div.specs.Unread.{IsUnread};
 ghost use Rattle.wanted_bits.specs.Narrowed.{IsNarrowed};
 ghost use Rattle.pass_chain.specs.Passes.{IsUnchanged, SunkInRounds};
 ghost use Rattle.pass_chain.specs.GraphPasses.{IsMadeOf};
@@ -15,11 +18,14 @@ use compare_flow::comparisons;
 use cond_const::fold;
 use copy_flow::copies;
 use edge_split::split;
+use extend_flow::extensions;
 use flow_graph::Graph;
 use mir_base::{Memory, Unit as MirUnit};
 use program_pass::laid_out;
 use sink_rounds::rounds;
 use std::alloc::Global;
+use term_flow::terms;
+use unread_div::unread;
 use value_bounds::use_bounds;
 use value_number::number;
 use wanted_bits::narrow;
@@ -132,6 +138,45 @@ impl GraphPass for Comparing {
     fn unit_of(alloc: Global, graph: &Graph) -> Result<MirUnit, Memory> {
         let compared = comparisons(alloc, graph)?;
         let unit = laid_out(alloc, &compared)?;
+        Ok(unit)
+    }
+}
+
+/// Two operators as one, of `term_flow`.
+pub(crate) struct Combining;
+
+impl GraphPass for Combining {
+    ghost exact = { IsTermed };
+
+    fn unit_of(alloc: Global, graph: &Graph) -> Result<MirUnit, Memory> {
+        let termed = terms(alloc, graph)?;
+        let unit = laid_out(alloc, &termed)?;
+        Ok(unit)
+    }
+}
+
+/// Extensions of values that fit, of `extend_flow`.
+pub(crate) struct Extending;
+
+impl GraphPass for Extending {
+    ghost exact = { IsExtended };
+
+    fn unit_of(alloc: Global, graph: &Graph) -> Result<MirUnit, Memory> {
+        let extended = extensions(alloc, graph)?;
+        let unit = laid_out(alloc, &extended)?;
+        Ok(unit)
+    }
+}
+
+/// Divisions that nothing reads, of `unread_div`.
+pub(crate) struct Omitting;
+
+impl GraphPass for Omitting {
+    ghost exact = { IsUnread };
+
+    fn unit_of(alloc: Global, graph: &Graph) -> Result<MirUnit, Memory> {
+        let lessened = unread(alloc, graph)?;
+        let unit = laid_out(alloc, &lessened)?;
         Ok(unit)
     }
 }

@@ -2,12 +2,14 @@
 ghost use Rattle.std.specs.Prelude.{IfOk};
 ghost use Rattle.program_pass.specs.PassPrograms.{IsPassedProgram, Rewrites};
 ghost use Rattle.called_units.specs.CalledUnits.{HasCalledUnits};
+ghost use Rattle.constant_args.specs.ConstantArguments.{HasConstantArguments};
 ghost use Rattle.program_wanted.specs.WantedPrograms.{IsWantedProgram};
 ghost use Rattle.tail_loop.specs.Tails.{Tailed};
 ghost use Rattle.pass_chain.specs.Passes.{HasDivisionsMoved, IsMoved, IsOptimised};
 ghost use Rattle.unit_join.specs.JoinPrograms.{IsJoinedProgram};
 
 use called_units::called_program;
+use constant_args::constant_arguments;
 use mir_base::{Memory, Program};
 use mir_opt::{MoveTrail, Trail, divisions, motion, optimise};
 use program_wanted::wanted_program;
@@ -44,6 +46,14 @@ pub(crate) fn joined(alloc: Global, program: &Program) -> Result<Program, Memory
     ensures { IfOk result (Rewrites IsJoinedProgram program.now) }
 {
     let target = join_program(alloc, program)?;
+    Ok(target)
+}
+
+/// The program in which a parameter that each call gives the same constant begins with it.
+pub(crate) fn with_constant_arguments(alloc: Global, program: &Program) -> Result<Program, Memory>
+    ensures { IfOk result (Rewrites HasConstantArguments program.now) }
+{
+    let target = constant_arguments(alloc, program)?;
     Ok(target)
 }
 

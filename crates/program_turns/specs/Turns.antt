@@ -1,13 +1,17 @@
--- The passes of a turn, and the turns that are made of a program. Cited by contracts.
+-- The passes of a turn, in two halves, and the turns that are made of a program. Cited by contracts, `IsTurn` and
+-- `ChangesBy` by those of private functions.
 use Rattle.std.specs.Prelude.{◌≡◌, ◌≢◌, ◌⊎◌, ℕ, zero, suc, List, [], ◌∷◌}
 use Rattle.mir_base.specs.Shapes.{ProgramShape}
+use Rattle.program_pass.specs.PassPrograms.{Rewrites}
 use Rattle.pass_chain.specs.declared.passes.Pass.{Pass}
-use Rattle.pass_chain.specs.declared.passes.Pass.TheVariants.{Tails, Join, Optimise, Bounds, Demanded, Called}
+use Rattle.pass_chain.specs.declared.passes.Pass.TheVariants.{Tails, Join, Arguments, Optimise, Terms, Bounds, Extensions, Unread, Demanded, Called}
 use Rattle.pass_chain.specs.Passes.{IsChained}
 
 -- the passes of a turn, from the first to the last
 abbrev pub turn : List Pass
-turn = Tails ∷ Join ∷ Optimise ∷ Demanded ∷ Bounds ∷ Called ∷ []
+turn =
+    Tails ∷ Join ∷ Arguments ∷ Optimise
+    ∷ Terms ∷ Demanded ∷ Bounds ∷ Extensions ∷ Unread ∷ Called ∷ []
 
 -- at most so many turns, one after the other, until a turn changes nothing
 abbrev pub TurnsMake : ℕ → ProgramShape → ProgramShape → Type 0
@@ -18,3 +22,23 @@ TurnsMake (suc more) source target = (next : ProgramShape) × (IsChained turn so
 -- sixteen turns, or fewer where one changes nothing
 abbrev pub IsThorough : ProgramShape → ProgramShape → Type 0
 IsThorough = TurnsMake 16
+
+-- ---- halves of a turn
+
+-- the first passes of a turn, by which a turn changes most
+abbrev pub first_half : List Pass
+first_half = Tails ∷ Join ∷ Arguments ∷ Optimise ∷ []
+
+-- the passes after them
+abbrev pub second_half : List Pass
+second_half = Terms ∷ Demanded ∷ Bounds ∷ Extensions ∷ Unread ∷ Called ∷ []
+
+-- a turn of the source made these two programs: the first by its first half, the second by all of it
+pub record IsTurn (source half whole : ProgramShape) : Type 0 where
+  pub first : Rewrites (IsChained first_half) source half
+  pub second : Rewrites (IsChained second_half) half whole
+
+-- and it changed the source
+pub record ChangesBy (source half whole : ProgramShape) : Type 0 where
+  pub turned : IsTurn source half whole
+  pub changed : whole ≢ source

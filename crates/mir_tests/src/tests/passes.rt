@@ -1,11 +1,13 @@
 // What the passes make of small programs, and what they find out: the examples of `examples.rt`, `value_examples.rt`,
-// `bound_examples.rt`, `compare_examples.rt` and `row_examples.rt`.
+// `bound_examples.rt`, `compare_examples.rt`, `term_examples.rt`, `extend_examples.rt`, `unread_examples.rt` and
+// `row_examples.rt`.
 use crate::tests::bound_examples::BOUND_EXAMPLES;
 use crate::tests::compare_examples::COMPARE_EXAMPLES;
 use crate::tests::copied::copies_text;
 use crate::tests::delayed::{delays_text, live_text};
 use crate::tests::edits::put_of;
 use crate::tests::examples::EXAMPLES;
+use crate::tests::extend_examples::EXTEND_EXAMPLES;
 use crate::tests::known::known_text;
 use crate::tests::paths::held_text;
 use crate::tests::placing::motion_text;
@@ -13,13 +15,16 @@ use crate::tests::ranges::ranges_text;
 use crate::tests::row_examples::ROW_EXAMPLES;
 use crate::tests::shown::{graph_text, put_changes};
 use crate::tests::support::graph_of;
+use crate::tests::term_examples::TERM_EXAMPLES;
 use crate::tests::terms::terms_text;
+use crate::tests::unread_examples::UNREAD_EXAMPLES;
 use crate::tests::value_examples::VALUE_EXAMPLES;
 use compare_flow::comparisons;
 use cond_const::fold;
 use copy_flow::copies;
 use div_move::move_dividing;
 use edge_split::split;
+use extend_flow::extensions;
 use flow_graph::{Blocks, Edges, Graph, is_split};
 use jump_clean::clean;
 use mir_base::Memory;
@@ -27,6 +32,8 @@ use sink_rounds::round;
 use std::alloc::Global;
 use std::mem;
 use std::test::Fail;
+use term_flow::terms;
+use unread_div::unread;
 use value_bounds::use_bounds;
 use value_number::number;
 use wanted_bits::narrow;
@@ -39,6 +46,9 @@ fn examples_of_passes(rt: HostRuntime) -> Result<(), Fail> {
         VALUE_EXAMPLES,
         BOUND_EXAMPLES,
         COMPARE_EXAMPLES,
+        TERM_EXAMPLES,
+        EXTEND_EXAMPLES,
+        UNREAD_EXAMPLES,
         ROW_EXAMPLES,
     ] {
         for example in examples.split("# ").skip(1) {
@@ -94,7 +104,10 @@ fn after(alloc: Global, pass: &str, graph: &Graph) -> Result<Graph, Fail> {
         "number" => Ok(number(alloc, graph)?),
         "copies" => Ok(copies(alloc, graph)?),
         "comparisons" => Ok(comparisons(alloc, graph)?),
+        "terms" => Ok(terms(alloc, graph)?),
         "bounds" => Ok(use_bounds(alloc, graph)?),
+        "extensions" => Ok(extensions(alloc, graph)?),
+        "unread" => Ok(unread(alloc, graph)?),
         "narrow" => Ok(narrow(alloc, graph)?),
         "split" => Ok(split(alloc, graph)?),
         "round" => round_of(alloc, graph),

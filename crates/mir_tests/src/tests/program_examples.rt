@@ -225,6 +225,81 @@ $ run 1000 4
 Ended(10) 9 []
 $ tails run 1000 4
 Ended(10) 9 []
+# of the arguments of a unit one is the same constant in each call
+main: begin
+receive n(val)
+x <- scaled,(n,int;3,int;1,int)
+y <- scaled,(x,int;3,int;2,int)
+return y
+end
+scaled: begin
+receive v(val)
+receive by(val)
+receive k(val)
+v <- v * by
+v <- v + k
+return v
+end
+$ arguments
+main: begin
+receive n(val)
+x <- scaled,(n,int;3,int;1,int)
+y <- scaled,(x,int;3,int;2,int)
+return y
+end
+scaled: begin
+receive v(val)
+receive by(val)
+receive k(val)
+by <- 3
+v <- v * by
+v <- v + k
+return v
+end
+$ run 100 5
+Ended(50) 4 []
+$ arguments run 100 5
+Ended(50) 4 []
+# the first unit is entered from outside; one call is not reached; one unit is not called
+main: begin
+receive n(val)
+if n goto L1
+x <- far,(6,int)
+return x
+y <- far,(4,int)
+L1: z <- main,(0,int)
+return z
+end
+far: begin
+receive k(val)
+return k
+end
+alone: begin
+receive k(val)
+return k
+end
+$ arguments
+main: begin
+receive n(val)
+if n goto L1
+x <- far,(6,int)
+return x
+L1: z <- main,(0,int)
+return z
+end
+far: begin
+receive k(val)
+k <- 6
+return k
+end
+alone: begin
+receive k(val)
+return k
+end
+$ run 100 1
+Ended(6) 0 []
+$ arguments run 100 1
+Ended(6) 0 []
 # a called unit wants four bits of one argument and none of the other, which its caller then does not compute
 main: begin
 receive a(val)

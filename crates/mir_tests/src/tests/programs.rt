@@ -76,6 +76,7 @@ fn pass_named(name: &str) -> Option<Pass> {
     match name {
         "tails" => Some(Pass::Tails),
         "join" => Some(Pass::Join),
+        "arguments" => Some(Pass::Arguments),
         "optimise" => Some(Pass::Optimise),
         "clean" => Some(Pass::Clean),
         "fold" => Some(Pass::Fold),
@@ -85,7 +86,10 @@ fn pass_named(name: &str) -> Option<Pass> {
         "divisions" => Some(Pass::Divisions),
         "sink" => Some(Pass::Sink),
         "comparisons" => Some(Pass::Comparisons),
+        "terms" => Some(Pass::Terms),
         "bounds" => Some(Pass::Bounds),
+        "extensions" => Some(Pass::Extensions),
+        "unread" => Some(Pass::Unread),
         "wanted" => Some(Pass::Wanted),
         "demanded" => Some(Pass::Demanded),
         "called" => Some(Pass::Called),

@@ -1,0 +1,206 @@
+-- What is made of each unit is what its arguments always are, and of all units the one program, which keeps its runs.
+use Rattle.std.proofs.Common.{◌≡◌, inl, inr, ℕ, ◌<◌, List, [], ◌∷◌, ◌++◌, length, slice_get, ℤ, Option, Some, refl, sym, ap, ◌∙◌, subst, arith}
+use Rattle.std.proofs.lemmas.Option.{slice_get_within}
+use Rattle.mir_base.specs.declared.instructions.Operand.{Operand}
+use Rattle.mir_base.specs.Shapes.{IsProgram, ProgramShape, UnitShape}
+use Rattle.mir_base.specs.UnitRuns.{UnitCheaper, UnitSame}
+use Rattle.flow_graph.specs.declared.nodes.Node.{Node}
+use Rattle.flow_graph.specs.declared.nodes.Node.TheVariants.{Call}
+use Rattle.flow_graph.specs.Calls.{CallsAmong, NodesCall}
+use Rattle.flow_graph.specs.Graphs.{CanMake, GraphShape}
+use Rattle.flow_graph.specs.KeepsLaws.{same_globals}
+use Rattle.flow_graph.specs.ListLaws.{get_push, some_at}
+use Rattle.flow_graph.specs.Machines.{graph_machine, machine_of}
+use Rattle.flow_graph.specs.OneLaws.{lowered_is_one, made_is_one}
+use Rattle.flow_graph.specs.Retained.{IsMade}
+use Rattle.jump_clean.specs.Cleaned.{IsClean}
+use Rattle.jump_clean.specs.CleanLaws.{clean_is_one}
+use Rattle.program_pass.specs.PassPrograms.{AllPassed, CleanedLaid, KeepsRuns, LoweredClean, PassKeeps}
+use Rattle.program_pass.specs.PassProgramLaws.{at, between_at, graph_is, graph_program, graphs, graphs_count, middles, passes_keep}
+use Rattle.program_pass.specs.RefitLaws.{called_fits}
+use Rattle.constant_args.specs.ConstantArguments.{AreConstants, Begins, IsCallOf, Knowing, begun, constant_puts}
+use Rattle.constant_args.specs.Gathered.{AreFronts, CallsExist, IsCallBefore, KnowingUnit, KnowsMade}
+use Rattle.constant_args.proofs.ArgumentStacks.{CallsIn, knowing_keep}
+use Rattle.constant_args.proofs.Begun.{begun_calls, begun_can}
+use Rattle.constant_args.proofs.Constants.{puts_below, puts_same}
+
+-- ---- one graph
+
+module _ (graph : GraphShape) (constants : List (Option ℤ)) (nodes : List Node) (can : CanMake graph.vars graph.received graph.nodes) (are : nodes ≡ begun graph.nodes (constant_puts graph.received constants)) where
+  -- the nodes make a graph
+  pub knows_can : CanMake graph.vars graph.received nodes
+  knows_can = subst (CanMake graph.vars graph.received) (sym are) (begun_can graph.vars graph.received graph.nodes can (constant_puts graph.received constants) (puts_below (length graph.vars) graph.received constants can.received_below))
+
+  -- and make no calls but those of the graph
+  pub knows_made : (known : GraphShape) → IsMade graph.name graph.shared graph.vars graph.received nodes known → UnitSame (graph_machine graph.shared graph.received nodes) (machine_of known)
+      → UnitCheaper (graph_machine graph.shared graph.received nodes) (machine_of known) → CallsAmong (NodesCall known.nodes) (NodesCall nodes) → KnowsMade graph constants known
+  knows_made known made same cheaper among = record {
+    nodes = nodes;
+    nodes_are = are;
+    made = made;
+    same = same;
+    cheaper = cheaper;
+    begun_calls = λ called count c. begun_calls graph.vars graph.received graph.nodes can (constant_puts graph.received constants) (puts_below (length graph.vars) graph.received constants can.received_below) called count (subst (λ l. NodesCall l called count) are c);
+    known_calls = among;
+  }
+
+-- what is kept of it
+pub knows_keeps : (units : List UnitShape) (u : ℕ) (graph : GraphShape) (constants : List (Option ℤ)) (known : GraphShape) → AreConstants (IsCallOf units) u constants → KnowsMade graph constants known → PassKeeps (Begins units u) graph known
+knows_keeps units u graph constants known are m = record {
+  name = m.made.name_is;
+  globals = same_globals graph known m.made.shared_is m.made.vars_are;
+  middle = record { name = graph.name; shared = graph.shared; vars = graph.vars; received = graph.received; nodes = m.nodes };
+  between = record { constants = constants; are = are; nodes = m.nodes_are; shared = refl; received = refl };
+  shared = refl;
+  received = refl;
+  same = m.same;
+  cheaper = m.cheaper;
+  middle_calls = m.begun_calls;
+  calls = m.known_calls;
+}
+
+-- a graph has one that knows its arguments
+pub knowing_one : (units : List UnitShape) (u : ℕ) (graph a b : GraphShape) → Knowing units u graph a → Knowing units u graph b → a ≡ b
+knowing_one units u graph a b p q =
+    let puts : constant_puts graph.received p.constants ≡ constant_puts graph.received q.constants = puts_same graph.received p.constants q.constants (λ i c. (λ known. (q.are i c).1 ((p.are i c).0 known), λ known. (p.are i c).1 ((q.are i c).0 known))) in
+    made_is_one graph.name graph.shared graph.vars graph.received (begun graph.nodes (constant_puts graph.received p.constants)) a b p.made
+    (subst (λ l. IsMade graph.name graph.shared graph.vars graph.received (begun graph.nodes l) b) (sym puts) q.made)
+
+-- ---- the calls of the units
+
+-- the same calls give the same constants
+constants_move : (CallsOf Others : ℕ → List Operand → Type 0) (u : ℕ) (constants : List (Option ℤ)) → ((operands : List Operand) → CallsOf u operands → Others u operands)
+    → ((operands : List Operand) → Others u operands → CallsOf u operands) → AreConstants CallsOf u constants → AreConstants Others u constants
+constants_move CallsOf Others u constants forth back are i c = (
+  λ known. let always = (are i c).0 known in record { later = always.later; called = (always.called.0, forth always.called.0 always.called.1); each = λ operands call. always.each operands (back operands call) },
+  λ always. (are i c).1 (record { later = always.later; called = (always.called.0, back always.called.0 always.called.1); each = λ operands call. always.each operands (forth operands call) }),
+)
+
+module _ (units : List UnitShape) (gs : List GraphShape) (fronts : AreFronts units gs) where
+  -- a call of the graphs
+  call_forth : (u : ℕ) (operands : List Operand) → IsCallBefore gs (length gs) 0 u operands → IsCallOf units u operands
+  call_forth u operands call =
+      let lt = slice_get_within gs call.caller call.graph call.graph_at in
+      let unit = some_at units call.caller (omega (arith, lt, fronts.long)) in
+      let front = fronts.are call.caller unit.0 call.graph unit.1 call.graph_at in
+      record {
+        caller = call.caller;
+        unit = unit.0;
+        lowered = front.0;
+        cleaned = call.graph;
+        number = call.number;
+        into = call.into;
+        next = call.next;
+        unit_at = unit.1;
+        is_lowered = front.1.is_lowered;
+        is_cleaned = front.1.is_cleaned;
+        here = call.here;
+      }
+
+  -- and of the units
+  call_back : (u : ℕ) (operands : List Operand) → IsCallOf units u operands → IsCallBefore gs (length gs) 0 u operands
+  call_back u operands call =
+      let low = slice_get_within units call.caller call.unit call.unit_at in
+      let lt : call.caller < length gs = omega (arith, low, fronts.long) in
+      let graph = some_at gs call.caller lt in
+      let front = fronts.are call.caller call.unit graph.0 call.unit_at graph.1 in
+      let lowered = lowered_is_one call.unit front.0 call.lowered front.1.is_lowered call.is_lowered in
+      let cleaned : graph.0 ≡ call.cleaned = clean_is_one front.0 graph.0 call.cleaned front.1.within front.1.is_cleaned (subst (λ g. IsClean g call.cleaned) (sym lowered) call.is_cleaned) in
+      record {
+        caller = call.caller;
+        graph = graph.0;
+        number = call.number;
+        into = call.into;
+        next = call.next;
+        graph_at = graph.1;
+        here = ap (λ (g : GraphShape). slice_get g.nodes call.number) cleaned ∙ call.here;
+        before = inl lt;
+      }
+
+  -- the constants of a unit
+  pub unit_constants : (u : ℕ) (constants : List (Option ℤ)) → AreConstants (IsCallBefore gs (length gs) 0) u constants → AreConstants (IsCallOf units) u constants
+  unit_constants u constants are = constants_move (IsCallBefore gs (length gs) 0) (IsCallOf units) u constants (call_forth u) (call_back u) are
+
+  -- what is made of the unit of a number
+  pub knowing_unit : (number : ℕ) (graph known : GraphShape) (constants : List (Option ℤ)) (target : UnitShape) → slice_get gs number ≡ Some graph
+      → AreConstants (IsCallBefore gs (length gs) 0) number constants → KnowsMade graph constants known → CleanedLaid known target → KnowingUnit units number target
+  knowing_unit number graph known constants target at_graph are made back source at_source =
+      let front = fronts.are number source graph at_source at_graph in
+      let constants_are = unit_constants number constants are in
+      record {
+        lowered = front.0;
+        cleaned = graph;
+        passed = known;
+        front = front.1;
+        is_passed = record { constants = constants; are = constants_are; made = subst (λ l. IsMade graph.name graph.shared graph.vars graph.received l known) made.nodes_are made.made };
+        keeps = knows_keeps units number graph constants known constants_are made;
+        back = back;
+      }
+
+  -- the calls are of units that there are
+  pub calls_exist : (globals : List (List ℕ)) → IsProgram globals units → CallsExist gs
+  calls_exist globals program = record {
+    some = omega (arith, program.some_unit, fronts.long);
+    calls = λ w graph n node at_graph here into v operands next is.
+        let lt = slice_get_within gs w graph at_graph in
+        let unit = some_at units w (omega (arith, lt, fronts.long)) in
+        let front = fronts.are w unit.0 graph unit.1 at_graph in
+        let fits = called_fits units unit.0.body v (length operands) (program.bodies w unit.0 unit.1) (front.1.keeps.calls v (length operands) (record { number = n; node = Call into v operands next; here = here ∙ ap Some is; calls = refl })) in
+        omega (arith, fits.0, fronts.long);
+  }
+
+-- graphs of the first units
+abbrev pub AreFrontsBelow : List UnitShape → List GraphShape → Type 0
+AreFrontsBelow units gs = (u : ℕ) (unit : UnitShape) (graph : GraphShape) → slice_get units u ≡ Some unit → slice_get gs u ≡ Some graph → (lowered : GraphShape) × LoweredClean unit lowered graph
+
+-- one more
+pub fronts_more : (units : List UnitShape) (gs more : List GraphShape) (number : ℕ) (unit : UnitShape) (lowered graph : GraphShape) → length gs ≡ number → AreFrontsBelow units gs → slice_get units number ≡ Some unit
+    → LoweredClean unit lowered graph → more ≡ gs ++ graph ∷ [] → AreFrontsBelow units more
+fronts_more units gs more number unit lowered graph long are at made is u v g at_v at_g = elim (get_push gs graph g u (sym (ap (λ l. slice_get l u) is) ∙ at_g)) [
+  | inl old ↦ are u v g at_v old
+  | inr last ↦
+      let number_is : u ≡ number = last.0 ∙ long in
+      let both : Some unit ≡ Some v = sym at ∙ ap (slice_get units) (sym number_is) ∙ at_v in
+      let same : unit ≡ v = cc in
+      (lowered, subst (λ h. LoweredClean v lowered h) last.1 (subst (λ s. LoweredClean s lowered graph) same made))
+]
+
+-- ---- the program
+
+module _ (source target : ProgramShape) (program : IsProgram source.globals source.units) (globals : target.globals ≡ source.globals) (all : AllPassed (Knowing source.units) (Begins source.units) source.units target.units) where
+  abbrev own : List GraphShape
+  own = graphs (Knowing source.units) (Begins source.units) source target program globals all
+
+  -- a call of the graphs is one of the units
+  own_call : (u : ℕ) (operands : List Operand) → CallsIn own u operands → IsCallOf source.units u operands
+  own_call u operands call =
+      let there = call.there in
+      let lt : call.caller < length source.units = omega (arith, there, graphs_count (Knowing source.units) (Begins source.units) source target program globals all) in
+      let a = at (Knowing source.units) (Begins source.units) source target program globals all call.caller lt in
+      record {
+        caller = call.caller;
+        unit = a.source;
+        lowered = a.made.lowered;
+        cleaned = a.made.cleaned;
+        number = call.number;
+        into = call.into;
+        next = call.next;
+        unit_at = a.source_at;
+        is_lowered = a.made.front.is_lowered;
+        is_cleaned = a.made.front.is_cleaned;
+        here = ap (λ (g : GraphShape). slice_get g.nodes call.number) (sym (graph_is (Knowing source.units) (Begins source.units) source target program globals all call.caller lt)) ∙ call.here;
+      }
+
+  -- the target is the same, evaluates no more operators and is never deeper
+  pub knowing_keeps : KeepsRuns source target
+  knowing_keeps = passes_keep (Knowing source.units) (Begins source.units) source target program globals all
+      (knowing_keep own (middles (Knowing source.units) (Begins source.units) source target program globals all) (graph_program (Knowing source.units) (Begins source.units) source target program globals all) (λ u lt.
+      let b = between_at (Knowing source.units) (Begins source.units) source target program globals all u lt in
+      record {
+        constants = b.constants;
+        nodes = b.nodes;
+        shared = b.shared;
+        received = b.received;
+        later = λ i c known. ((b.are i c).0 known).later;
+        given = λ i c known operands call. ((b.are i c).0 known).each operands (own_call u operands call);
+      }))

@@ -1,0 +1,2 @@
+pub mod ConstantArguments
+pub mod Gathered

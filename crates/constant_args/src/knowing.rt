@@ -1,0 +1,92 @@
+// The graph of a unit that knows the constants of its arguments.
+ghost use Rattle.std.specs.Prelude.{◌≡◌, ◌<◌, ◌++◌, ◌∷◌, [], length, slice_index_or, slice_set, IfOk, None, OnOk};
+ghost use Rattle.flow_graph.specs.declared.nodes.Node.TheVariants.{Skip, Start};
+ghost use Rattle.program_pass.specs.Puts.{insertions};
+ghost use Rattle.constant_args.specs.ConstantArguments.{begun, constant_put, constant_puts};
+ghost use Rattle.constant_args.specs.Gathered.{KnowsMade};
+
+use flow_graph::{Graph, Node};
+use mir_base::{Memory, Operand};
+use program_pass::{Put, copied_nodes, plain_put, stand, start_succ};
+use std::alloc::Global;
+
+/// The graph with these constants assigned, behind Start, to the variables that receive the arguments. It fails only
+/// with `Memory`.
+pub(crate) fn knowing(
+    alloc: Global,
+    graph: &Graph,
+    constants: &[Option<i64>],
+) -> Result<Graph, Memory>
+    ensures { IfOk result (KnowsMade graph.now constants.now) }
+{
+    let _nodes = graph.nodes();
+    let puts = constant_puts(alloc, graph.received(), constants)?;
+    let nodes = begun(alloc, graph, puts.as_slice())?;
+    let known = graph.with_nodes(alloc, nodes)?;
+    Ok(known)
+}
+
+/// The assignments of the constants to the variables that receive the arguments of their numbers.
+fn constant_puts(
+    alloc: Global,
+    received: &[usize],
+    constants: &[Option<i64>],
+) -> Result<Vec<Put>, Memory>
+    ensures { IfOk result (λ puts.
+        insertions puts.items ≡ constant_puts received.now constants.now) }
+{
+    let mut puts = Vec::new(alloc);
+    for i in 0..received.len() {
+        push_put(&mut puts, received[i], constant_at(constants, i))?;
+    }
+    Ok(puts)
+}
+
+/// The constant of this number, where there is one.
+fn constant_at(constants: &[Option<i64>], i: usize) -> Option<i64>
+    ensures { result ≡ slice_index_or constants.now i None }
+{
+    match constants.get(i) {
+        Some(constant) => *constant,
+        None => None,
+    }
+}
+
+/// Adds the assignment of a constant, where there is one.
+fn push_put(puts: &mut Vec<Put>, var: usize, constant: Option<i64>) -> Result<(), Memory>
+    ensures { OnOk result (insertions puts.new.items ≡
+        insertions puts.old.items ++ constant_put var constant) }
+{
+    match constant {
+        None => Ok(()),
+        Some(value) => {
+            puts.push(plain_put(var, Operand::Const(value)))?;
+            Ok(())
+        }
+    }
+}
+
+/// The nodes with these assignments behind Start; without any they stay as they are.
+fn begun(alloc: Global, graph: &Graph, puts: &[Put]) -> Result<Vec<Node>, Memory>
+    ensures { IfOk result (λ nodes. nodes.items ≡ begun graph.now.nodes (insertions puts.now)) }
+{
+    let mut nodes = copied_nodes(alloc, graph.nodes())?;
+    if !puts.is_empty() {
+        let first = nodes.len();
+        let end = start_succ(graph);
+        open_start(&mut nodes, end)?;
+        stand(&mut nodes, first, puts, end)?;
+    }
+    Ok(nodes)
+}
+
+/// Puts a new node between Start and node `end`, to which it leads.
+fn open_start(nodes: &mut Vec<Node>, end: usize) -> Result<(), Memory>
+    requires { 0 < length nodes.old.items }
+    ensures { OnOk result (nodes.new.items ≡
+        slice_set nodes.old.items 0 (Start (length nodes.old.items)) ++ Skip end ∷ []) }
+{
+    nodes[0] = Node::Start(nodes.len());
+    nodes.push(Node::Skip(end))?;
+    Ok(())
+}

@@ -1,0 +1,69 @@
+// Programs whose units know the arguments that are always the same constant.
+ghost use Rattle.std.specs.Prelude.{◌<◌, IfOk, length};
+ghost use Rattle.program_pass.specs.PassPrograms.{IsOnly, KeepsRuns};
+ghost use Rattle.constant_args.specs.ConstantArguments.{HasConstantArguments};
+ghost use Rattle.constant_args.specs.Gathered.{AreAllConstants, AreFronts, KnowingUnit, KnowingUnits};
+
+use crate::given::{Given, givens_of};
+use crate::graphs::graphs_of;
+use crate::knowing::knowing;
+use flow_graph::Graph;
+use mir_base::{Memory, Program, Unit as MirUnit};
+use program_pass::laid_out;
+use std::alloc::Global;
+
+/// The program whose units are those of this one, each lowered, cleaned, told which of its arguments are always the same
+/// constant, cleaned and laid out; the globals stay. An argument of a unit is always a constant where some call of the
+/// unit is a node of these graphs, and each such call gives this constant; those of the first unit are not, since it is
+/// entered from outside. Behind Start stand assignments of these constants to the variables that receive them, in order.
+///
+/// It is the same, evaluates no more operators, and never has more frames. It fails only with `Memory`.
+pub fn constant_arguments(alloc: Global, program: &Program) -> Result<Program, Memory>
+    ensures exact { IfOk result (HasConstantArguments program.now) }
+    ensures only { IfOk result (IsOnly (HasConstantArguments program.now)) }
+    ensures keeps { IfOk result (KeepsRuns program.now) }
+{
+    let graphs = graphs_of(alloc, program)?;
+    program.fits_together();
+    let givens = givens_of(alloc, &graphs)?;
+    let units = knowing_units(alloc, program, &graphs, &givens)?;
+    let target = program.with_units(units)?;
+    Ok(target)
+}
+
+/// The units, each told what its arguments always are.
+fn knowing_units(
+    alloc: Global,
+    program: &Program,
+    graphs: &Vec<Graph>,
+    givens: &Vec<Given>,
+) -> Result<Vec<MirUnit>, Memory>
+    requires fronts { AreFronts program.now.units graphs.now.items }
+    requires constants { AreAllConstants graphs.now.items givens.now.items }
+    ensures { IfOk result (λ units. KnowingUnits program.now.units units.items) }
+{
+    let mut units = Vec::new(alloc);
+    for number in 0..program.units.items().len() {
+        units.push(knowing_unit(alloc, program, graphs, givens, number)?)?;
+    }
+    Ok(units)
+}
+
+/// The unit of this number, told what its arguments always are.
+fn knowing_unit(
+    alloc: Global,
+    program: &Program,
+    graphs: &Vec<Graph>,
+    givens: &Vec<Given>,
+    number: usize,
+) -> Result<MirUnit, Memory>
+    requires fronts { AreFronts program.now.units graphs.now.items }
+    requires constants { AreAllConstants graphs.now.items givens.now.items }
+    requires number { number < length program.now.units }
+    ensures { IfOk result (KnowingUnit program.now.units number) }
+{
+    let graph = &graphs[number];
+    let known = knowing(alloc, graph, givens[number].constants.as_slice())?;
+    let target = laid_out(alloc, &known)?;
+    Ok(target)
+}

@@ -1,0 +1,4 @@
+pub mod Agreement
+pub mod Flagging
+pub mod RunSteps
+pub mod Shapes

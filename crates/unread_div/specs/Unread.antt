@@ -1,0 +1,82 @@
+-- The graph without the divisions that nothing reads. Cited by contracts, those of pass_chain too.
+use Rattle.std.specs.Prelude.{◌≡◌, ◌⊎◌, ◌↔◌, ◌<◌, ℕ, pos, Bool, true, false, List, length, slice_get, Option, Some, None}
+use Rattle.mir_base.specs.declared.instructions.Operand.{Operand}
+use Rattle.mir_base.specs.declared.instructions.Rhs.TheVariants.{Binary}
+use Rattle.mir_base.specs.declared.operators.Op.{Op}
+use Rattle.mir_base.specs.Frames.{Frame}
+use Rattle.mir_base.specs.Numbers.{is_dividing}
+use Rattle.mir_base.specs.Units.{operand_value}
+use Rattle.flow_graph.specs.declared.nodes.Node.{Node}
+use Rattle.flow_graph.specs.declared.nodes.Node.TheVariants.{Assign}
+use Rattle.flow_graph.specs.Dividing.{DividesOf}
+use Rattle.flow_graph.specs.Edges.{IsSplit}
+use Rattle.flow_graph.specs.Graphs.{GraphShape, succs_at}
+use Rattle.flow_graph.specs.Machines.{machine_of}
+use Rattle.flow_graph.specs.RunFrames.{IsRunFrame}
+use Rattle.graph_edit.specs.Flagged.{pruned_from}
+use Rattle.cond_flow.specs.KnownBefore.{IsKnownBefore}
+use Rattle.dead_code.specs.Liveness.{IsLiveAfter}
+use Rattle.zero_flow.specs.declared.facts.ZeroFact.{ZeroFact}
+use Rattle.zero_flow.specs.ZeroFacts.{BelowZeroFact}
+use Rattle.zero_flow.specs.ZeroRules.{may_be_nought, zero_rules}
+
+-- ---- which divisions go
+
+-- node n divides, whether or not the divisor may be 0, and its variable is not live behind it
+pub record IsDeadDivision (graph : GraphShape) (n : ℕ) : Type 0 where
+  pub var : ℕ
+  pub op : Op
+  pub left : Operand
+  pub right : Operand
+  pub next : ℕ
+  pub is : slice_get graph.nodes n ≡ Some (Assign var (Binary op left right) next)
+  pub divides : is_dividing op ≡ true
+  pub dead : ¬ (IsLiveAfter graph var n)
+
+-- the operand may be 0 by what is known of the variables, if a run comes to the node at all
+abbrev pub may_be_nought_before : Option (List ZeroFact) → Operand → Bool
+may_be_nought_before None b = false
+may_be_nought_before (Some known) b = may_be_nought known b
+
+-- by the least states of the graph the operand is not 0 before node n
+pub record IsNeverZero (graph : GraphShape) (n : ℕ) (b : Operand) : Type 0 where
+  pub known : Option (List ZeroFact)
+  pub is_known : IsKnownBefore BelowZeroFact zero_rules graph n known
+  pub never : may_be_nought_before known b ≡ false
+
+-- node n is a division that nothing reads, and its divisor is not 0
+pub record IsUnreadAt (graph : GraphShape) (n : ℕ) : Type 0 where
+  pub division : IsDeadDivision graph n
+  pub safe : IsNeverZero graph n division.right
+
+-- ---- the graph
+
+-- exactly these became Skips with their successors; all else is as it was
+pub record IsUnread (graph lessened : GraphShape) : Type 0 where
+  pub gone : ℕ → Bool
+  pub gone_are : (n : ℕ) → n < length graph.nodes → (gone n ≡ true) ↔ IsUnreadAt graph n
+  pub is : lessened ≡ record graph { nodes = pruned_from gone 0 graph.nodes }
+
+-- no other graph is
+abbrev pub IsOnlyUnread : GraphShape → GraphShape → Type 0
+IsOnlyUnread graph lessened = (other : GraphShape) → IsUnread graph other → other ≡ lessened
+
+-- x is not live behind node n, and in each run that comes there the operand is not 0
+pub record IsUnneeded (graph : GraphShape) (n x : ℕ) (b : Operand) : Type 0 where
+  pub dead : ¬ (IsLiveAfter graph x n)
+  pub safe : (frame : Frame) → IsRunFrame (machine_of graph) frame → frame.place ≡ n
+      → ¬ (operand_value frame.values b ≡ pos 0)
+
+-- each node that divides stays as it is, where it stood, or is not needed
+abbrev pub KeepsReadDivisions : GraphShape → GraphShape → Type 0
+KeepsReadDivisions graph lessened = (n x : ℕ) (op : Op) (left right : Operand)
+    → DividesOf graph.nodes n x op left right
+    → DividesOf lessened.nodes n x op left right ⊎ IsUnneeded graph n x right
+
+-- each node has the successors that it had
+abbrev pub KeepsSuccs : GraphShape → GraphShape → Type 0
+KeepsSuccs graph lessened = (n : ℕ) → succs_at lessened.nodes n ≡ succs_at graph.nodes n
+
+-- a split graph stays split
+abbrev pub KeepsSplit : GraphShape → GraphShape → Type 0
+KeepsSplit graph lessened = IsSplit graph.nodes → IsSplit lessened.nodes

@@ -1,0 +1,9 @@
+pub mod ZeroFacts
+pub mod Pairs
+pub mod Zeros
+pub mod ZeroRules
+pub mod FactLaws
+pub mod PairLaws
+pub mod EdgeLaws
+pub mod ReadingLaws
+pub mod ZeroRuleLaws
