@@ -107,7 +107,7 @@ fn whole_calls(rt: HostRuntime) -> Result<(), Fail> {
         usage.left(
             1,
             b"",
-            b"usage: mir_tables [optimise | divisions | tails | join | bounds | wanted]\n"
+            b"usage: mir_tables [optimise | divisions | tails | join | bounds | wanted | demanded]\n"
         )
     );
     Ok(())

@@ -25,11 +25,11 @@ use Rattle.wanted_bits.specs.Asking.{asked_by, width_at}
 use Rattle.wanted_bits.specs.Made.{IsMadeNarrowed}
 use Rattle.wanted_bits.specs.Narrowed.{IsNarrowedBy}
 use Rattle.wanted_bits.specs.NarrowedLaws.{narrowed_is_one}
-use Rattle.program_wanted.specs.Demands.{AreLeastDemands, AreServed, Demands, asked_at}
+use Rattle.program_wanted.specs.Demands.{AreLeastDemands, AreServed, Demands, IsAround, asked_at}
 use Rattle.program_wanted.specs.DemandLaws.{demands_one, enough, made_sides}
 use Rattle.program_wanted.specs.DemandStacks.{LeastSides, Sides, narrowed_keep}
 use Rattle.program_wanted.specs.NarrowedUnits.{AreNarrowedUnits, IsLaidFrom}
-use Rattle.program_wanted.specs.Sweeps.{FitTogether, IsAround}
+use Rattle.program_wanted.specs.Sweeps.{FitTogether}
 use Rattle.program_wanted.specs.WantedPrograms.{AreFronts, AreGraphsOf, IsWantedProgram, NarrowedTo, NarrowsTo, WantedUnit, WantedUnits}
 
 -- ---- the graphs
@@ -178,7 +178,7 @@ module _ (demands : Demands) (gs : List GraphShape) (source target : ProgramShap
   in_source u graph at = omega (arith, slice_get_within own u graph at, own_long)
 
   -- each is narrowed
-  made_narrowed : (u : ℕ) (graph narrowed : GraphShape) → slice_get own u ≡ Some graph → slice_get made u ≡ Some narrowed → IsMadeNarrowed (asked_at demands graph.shared u) graph narrowed
+  pub made_narrowed : (u : ℕ) (graph narrowed : GraphShape) → slice_get own u ≡ Some graph → slice_get made u ≡ Some narrowed → IsMadeNarrowed (asked_at demands graph.shared u) graph narrowed
   made_narrowed u graph narrowed at_u at_made =
       let a = at (NarrowedTo demands) (NarrowsTo demands) source target program globals all u (in_source u graph at_u) in
       let both : Some a.made.cleaned ≡ Some graph = sym a.graph_at ∙ at_u in
@@ -199,11 +199,15 @@ module _ (demands : Demands) (gs : List GraphShape) (source target : ProgramShap
       let back = a.made.back in
       subst (λ g. IsLaidFrom g unit) same (subst (IsLaidFrom a.made.passed) one' (back.swept, (back.is_swept, back.is_laid)))
 
-  pub are_units : AreNarrowedUnits source target own made
+  -- the demands are the least that serve them
+  pub own_least : AreLeastDemands own demands
+  own_least = subst (λ l. AreLeastDemands l demands) (sym same) least
+
+  abbrev pub are_units : AreNarrowedUnits source target own made
   are_units = record {
     are_graphs = subst (AreGraphsOf source.units) (sym same) (graphs_of source.units gs fronts);
     demands = demands;
-    least = subst (λ l. AreLeastDemands l demands) (sym same) least;
+    least = own_least;
     long = made_long;
     are_narrowed = λ u graph narrowed at_u at_made. (made_narrowed u graph narrowed at_u at_made).narrowed_is;
     are_laid = made_laid;

@@ -19,6 +19,12 @@ pub record AreGraphsOf (units : List UnitShape) (graphs : List GraphShape) : Typ
   pub are : (u : ℕ) (unit : UnitShape) (graph : GraphShape) → slice_get units u ≡ Some unit
       → slice_get graphs u ≡ Some graph → IsGraphOf unit graph
 
+-- the least demands that serve all units of a program
+pub record AreProgramDemands (program : ProgramShape) (demands : Demands) : Type 0 where
+  pub graphs : List GraphShape
+  pub are_graphs : AreGraphsOf program.units graphs
+  pub least : AreLeastDemands graphs demands
+
 -- each graph is narrowed to what is asked for around its unit
 abbrev pub NarrowedTo : Demands → PassRelation
 NarrowedTo demands u graph narrowed = IsNarrowedBy (asked_at demands graph.shared u) graph narrowed
