@@ -1,5 +1,5 @@
 -- The program of the graphs and that of the narrowed graphs run beside one another, a step for a step.
-use Rattle.std.proofs.Common.{◌≡◌, ℕ, zero, suc, ◌+◌, ◌<◌, ◌≤◌, max, Bool, true, false, nat_lt, List, [], ◌∷◌, ◌++◌, length, replicate, slice_get, ℤ, pos, Option, Some, None, refl, sym, ap, ◌∙◌, subst, arith, le_refl, true≢false}
+use Rattle.std.proofs.Common.{◌≡◌, ℕ, zero, suc, ◌+◌, ◌<◌, ◌≤◌, max, Bool, true, false, if◌then◌else◌, nat_lt, List, [], ◌∷◌, ◌++◌, length, replicate, slice_get, ℤ, pos, Option, Some, None, refl, sym, ap, ◌∙◌, subst, arith, le_refl, true≢false}
 use Rattle.std.proofs.lemmas.Bool.{lt-ltb, ltb-true}
 use Rattle.std.proofs.lemmas.List.{length-replicate}
 use Rattle.std.proofs.lemmas.Option.{slice_get_within}
@@ -150,7 +150,7 @@ module _ (graphs middles : List GraphShape) (program : IsGraphProgram graphs) (d
   -- ---- the frames
 
   -- an answer of zeros agrees with itself
-  zero_answer : Answer
+  abbrev zero_answer : Answer
   zero_answer = record { value = pos 0; globals = replicate shared (pos 0) }
 
   zero_is : IsCallAnswer shared zero_answer

@@ -128,7 +128,7 @@ module _ (demands : Demands) (gs : List GraphShape) (source target : ProgramShap
   own_long = graphs_count (NarrowedTo demands) (NarrowsTo demands) source target program globals all
 
   -- the graphs are those of the demands
-  same : own ≡ gs
+  pub same : own ≡ gs
   same = places_same own gs (own_long ∙ sym fronts.long) (λ u x y at_x at_y.
       let lt : u < length source.units = omega (arith, slice_get_within own u x at_x, own_long) in
       let a = at (NarrowedTo demands) (NarrowsTo demands) source target program globals all u lt in
@@ -165,7 +165,7 @@ module _ (demands : Demands) (gs : List GraphShape) (source target : ProgramShap
   -- ---- the graphs and what they are narrowed to
 
   -- as many
-  made_long : length made ≡ length own
+  pub made_long : length made ≡ length own
   made_long = middles_long source.units target.units all.long (λ v. v) all.units ∙ sym own_long
     where
       middles_long : (sources targets : List UnitShape) → length targets ≡ length sources → (number : ℕ → ℕ) (each : MadeOf (NarrowedTo demands) (NarrowsTo demands) number sources targets) → length (middles_of (NarrowedTo demands) (NarrowsTo demands) number sources targets each) ≡ length sources
@@ -188,7 +188,7 @@ module _ (demands : Demands) (gs : List GraphShape) (source target : ProgramShap
       subst (λ g. IsMadeNarrowed (asked_at demands g.shared u) g narrowed) one (subst (IsMadeNarrowed (asked_at demands a.made.cleaned.shared u) a.made.cleaned) one' a.made.keeps.between)
 
   -- and laid out it is the unit
-  made_laid : (u : ℕ) (narrowed : GraphShape) (unit : UnitShape) → slice_get made u ≡ Some narrowed → slice_get target.units u ≡ Some unit → IsLaidFrom narrowed unit
+  pub made_laid : (u : ℕ) (narrowed : GraphShape) (unit : UnitShape) → slice_get made u ≡ Some narrowed → slice_get target.units u ≡ Some unit → IsLaidFrom narrowed unit
   made_laid u narrowed unit at_made at_unit =
       let a = at (NarrowedTo demands) (NarrowsTo demands) source target program globals all u (omega (arith, slice_get_within made u narrowed at_made, made_long, own_long)) in
       let both : Some a.made.keeps.middle ≡ Some narrowed = sym a.middle_at ∙ at_made in
