@@ -1,17 +1,16 @@
 -- The paths of a graph stay where it is narrowed, and none of them is dearer.
-use Rattle.std.proofs.Common.{◌≡◌, ℕ, zero, suc, ◌+◌, ◌≤◌, Bool, true, false, if◌then◌else◌, List, [], ◌∷◌, length, slice_get, Option, Some, None, option_map, refl, sym, ap, ◌∙◌, subst, arith, le_refl}
+use Rattle.std.proofs.Common.{◌≡◌, ℕ, zero, suc, ◌≤◌, Bool, true, false, if◌then◌else◌, List, [], ◌∷◌, length, slice_get, Option, Some, None, option_map, refl, sym, ap, ◌∙◌, subst, arith, le_refl}
 use Rattle.std.proofs.lemmas.List.Elements.{All-head, All-tail}
 use Rattle.mir_base.specs.declared.instructions.Rhs.{Rhs}
 use Rattle.mir_base.specs.Expressions.{rhs_count}
-use Rattle.mir_base.specs.Frames.{Answer, CallEntry, Frame, Transition, Continues, Prints, Calls, Returns, Traps, first_frame, resumed}
-use Rattle.mir_base.specs.UnitRuns.{AreAnswers, EndsInReturn, IsCallAnswer, IsEntry, UnitCheaper, after_transition, frame_run}
+use Rattle.mir_base.specs.Frames.{Answer, Frame, Transition, Continues, Prints, Calls, Returns, Traps, first_frame, resumed}
+use Rattle.mir_base.specs.UnitRuns.{AreAnswers, EndsInReturn, IsCallAnswer, UnitCheaper, after_transition, frame_run}
 use Rattle.flow_graph.specs.declared.nodes.Node.{Node}
 use Rattle.flow_graph.specs.declared.nodes.Node.TheVariants.{Start, Skip, Assign, Print, Guard, Call, Test, Return}
 use Rattle.flow_graph.specs.Graphs.{CanMake, GraphShape, succs_at}
 use Rattle.flow_graph.specs.Machines.{graph_code, graph_machine, machine_of}
 use Rattle.flow_graph.specs.Paths.{IsFullPath, IsPath, is_return}
-use Rattle.flow_graph.specs.Sums.{sum_on}
-use Rattle.graph_edit.specs.Over.{weigh, weight_at}
+use Rattle.graph_edit.specs.Over.{weigh}
 use Rattle.wanted_bits.specs.declared.table.Shift.{Shift}
 use Rattle.wanted_bits.specs.Narrowed.{AreNarrowed, goes, narrowed_node, narrowed_rhs}
 use Rattle.wanted_bits.specs.NarrowedSteps.{AlikeBy, Beside, entered_beside, narrowed_steps}

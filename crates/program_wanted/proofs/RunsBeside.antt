@@ -3,8 +3,7 @@ use Rattle.std.proofs.Common.{◌≡◌, ℕ, zero, suc, ◌+◌, ◌<◌, ◌�
 use Rattle.std.proofs.lemmas.Bool.{lt-ltb, ltb-true}
 use Rattle.std.proofs.lemmas.List.{length-replicate}
 use Rattle.std.proofs.lemmas.Option.{slice_get_within}
-use Rattle.mir_base.specs.EqualValues.{with_other}
-use Rattle.mir_base.specs.Frames.{Answer, Code, Frame, Values, resumed, with_first, with_result}
+use Rattle.mir_base.specs.Frames.{Answer, Code, Values, with_first, with_result}
 use Rattle.mir_base.specs.NumberLaws.{zero_fits}
 use Rattle.mir_base.specs.Runs.{Caller, Control, Running, Ended, Stopped, State, first_entry, first_state, step, steps}
 use Rattle.mir_base.specs.SharedLaws.{with_first_other}
@@ -23,7 +22,7 @@ use Rattle.wanted_bits.specs.NarrowedSteps.{AnswersAgree}
 use Rattle.wanted_bits.specs.Walking.{is_into}
 use Rattle.wanted_bits.specs.Wanted.{AreLeastWantedBy}
 use Rattle.program_wanted.specs.Demands.{Demands, asked_at}
-use Rattle.program_wanted.specs.DemandStacks.{Answered, LeastSides, Over, Related, Sides, StepsMeet, Waits, related_step, starts_related}
+use Rattle.program_wanted.specs.DemandStacks.{LeastSides, Over, Related, Sides, Waits, related_step, starts_related}
 use Rattle.program_wanted.specs.NarrowedUnits.{AreUnitNumbers}
 use Rattle.program_wanted.specs.ProgramRuns.{AllCallersAgree, CallersAgree, ControlsAgree, StatesAgree}
 use denote.Struct.Props.{props}

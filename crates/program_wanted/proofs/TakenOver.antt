@@ -1,5 +1,5 @@
 -- What is removed where what is wanted is kept over all units goes.
-use Rattle.std.proofs.Common.{◌≡◌, ℕ, Bool, true, List, slice_get, Option, Some, ap}
+use Rattle.std.proofs.Common.{◌≡◌, ℕ, Bool, true, List, slice_get, Option, Some}
 use Rattle.mir_base.specs.declared.instructions.Rhs.{Rhs}
 use Rattle.flow_graph.specs.declared.nodes.Node.TheVariants.{Assign, Skip}
 use Rattle.flow_graph.specs.Graphs.{CanMake, GraphShape}

@@ -1,10 +1,10 @@
 -- What is made of the units of a program by the least demands: its runs agree with those of the source, no removal takes
 -- an assignment that stays, and no path is dearer.
-use Rattle.std.proofs.Common.{◌≡◌, ℕ, ◌<◌, List, Some, slice_get, ap, sym, subst}
+use Rattle.std.proofs.Common.{◌≡◌, ℕ, List, Some, slice_get, ap, subst}
 use Rattle.std.proofs.lemmas.Option.{slice_get_within}
 use Rattle.mir_base.specs.Shapes.{IsProgram, ProgramShape}
 use Rattle.flow_graph.specs.Graphs.{CanMake, GraphShape}
-use Rattle.program_pass.specs.GraphPrograms.{graph_numbered, graph_or_empty, shared_in}
+use Rattle.program_pass.specs.GraphPrograms.{graph_or_empty, shared_in}
 use Rattle.wanted_bits.specs.Made.{IsMadeNarrowed}
 use Rattle.wanted_bits.specs.Narrowed.{AreNarrowed}
 use Rattle.program_wanted.specs.Demands.{AreLeastDemands, Demands, asked_at}

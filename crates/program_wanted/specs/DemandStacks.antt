@@ -9,7 +9,7 @@ use Rattle.mir_base.specs.declared.instructions.Rhs.TheVariants.{Plain, Unary, B
 use Rattle.mir_base.specs.declared.instructions.Test as tests
 use Rattle.mir_base.specs.Numbers.{traps, value_of_op}
 use Rattle.mir_base.specs.declared.operators.Trap.TheVariants.{ZeroDivisor, Raised}
-use Rattle.mir_base.specs.Frames.{Answer, CallEntry, Code, Frame, first_frame, resumed, shared_values, Transition, Continues, Prints, Calls, Returns, Traps}
+use Rattle.mir_base.specs.Frames.{Answer, CallEntry, Code, Frame, resumed, shared_values, Transition, Continues, Prints, Calls, Returns, Traps}
 use Rattle.mir_base.specs.Runs.{Caller, Running, returned}
 use Rattle.mir_base.specs.UnitRuns.{IsCallAnswer, IsEntry}
 use Rattle.mir_base.specs.Units.{assign_transition, assigned, at, guard_transition, operand_value, test_holds}

@@ -1,6 +1,6 @@
 -- Laws: the graphs of the units of a program fit together; what is made of the units by the least demands keeps the
 -- program; and a program has one such program. For proofs only.
-use Rattle.std.proofs.Common.{◌≡◌, ℕ, suc, ◌+◌, ◌<◌, ◌≤◌, inl, inr, List, [], ◌∷◌, ◌++◌, length, slice_get, Some, refl, sym, ap, ◌∙◌, subst, arith}
+use Rattle.std.proofs.Common.{◌≡◌, ℕ, suc, ◌<◌, ◌≤◌, inl, inr, List, [], ◌∷◌, ◌++◌, length, slice_get, Some, refl, sym, ap, ◌∙◌, subst, arith}
 use Rattle.std.proofs.lemmas.Option.{slice_get_within}
 use Rattle.mir_base.specs.LockstepLaws.{cheaper_refl}
 use Rattle.mir_base.specs.UnitLaws.{same_refl}
