@@ -5,7 +5,7 @@ _mir() {
     local word=${COMP_WORDS[COMP_CWORD]} before=${COMP_WORDS[COMP_CWORD - 1]}
     local commands='optimise stages move ranges divisions tails join thorough passes run trial'
     local passes='tails join optimise clean fold number copies motion divisions sink comparisons bounds wanted demanded called'
-    local tables='optimise divisions tails join bounds wanted'
+    local tables='optimise divisions tails join bounds wanted demanded'
     COMPREPLY=()
     if [[ $before == -o ]]; then
         mapfile -t COMPREPLY < <(compgen -f -- "$word")
