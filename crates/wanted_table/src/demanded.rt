@@ -107,6 +107,11 @@ fn put_front(
     let cleaned = &steps.cleaned;
     put_before(text, units, steps)?;
     text.extend_from_slice(b"pass demanded\n")?;
-    put_entered(text, &around.globals[number], &around.arguments[number], cleaned)?;
+    put_entered(
+        text,
+        &around.globals[number],
+        &around.arguments[number],
+        cleaned,
+    )?;
     put_returned(text, around.back, cleaned.shared())
 }
