@@ -223,19 +223,19 @@ received_low graph can i x at = below_at (length graph.vars) graph.received i x 
 pub made_sides : (demands : Demands) (u : ℕ) (graph narrowed : GraphShape) → CanMake graph.vars graph.received graph.nodes → SharesVars graph.shared graph.vars graph.received → AreFoundNodes (asked_at demands graph.shared u) graph narrowed.nodes → narrowed.shared ≡ graph.shared → narrowed.received ≡ graph.received → IsServed demands graph u → LeastSides demands u graph narrowed
 made_sides demands u graph narrowed can shares found shared received served = record {
   sides = record {
-  are = record { shifts = found.shifts; wanted = found.wanted; shifts_hold = found.shifts_hold; are_wanted = found.least.are; nodes_are = found.nodes_are };
-  shared = shared;
-  received = received;
-  globals = λ x low. enough (list_at demands.globals u) x (found.wanted 0 x) (found.least.are.most 0 x) (omega (arith, fewer 0 x first (omega (arith, low, shares.count)), served.globals x low));
-  arguments = λ i x at. enough (list_at demands.arguments u) i (found.wanted 0 x) (found.least.are.most 0 x) (omega (arith, fewer 0 x first (received_low graph can i x at), served.arguments i x at));
-  calls = record {
-    on_globals = λ n into v operands next here x low off.
-        enough (list_at demands.backs v) x (found.wanted next x) (found.least.are.most next x)
-        (omega (arith, fewer next x (next_in n into v operands next here) (omega (arith, low, shares.count)), back_global graph.shared into (served.wanted next) x low off, served.calls n into v operands next here x));
-    on_result = λ n y v operands next here.
-        enough (list_at demands.backs v) graph.shared (found.wanted next y) (found.least.are.most next y)
-        (omega (arith, fewer next y (next_in n (Some y) v operands next here) ((can.below n (Call (Some y) v operands next) here).0), back_result graph.shared y (served.wanted next), served.calls n (Some y) v operands next here graph.shared));
-  };
+    are = record { shifts = found.shifts; wanted = found.wanted; shifts_hold = found.shifts_hold; are_wanted = found.least.are; nodes_are = found.nodes_are };
+    shared = shared;
+    received = received;
+    globals = λ x low. enough (list_at demands.globals u) x (found.wanted 0 x) (found.least.are.most 0 x) (omega (arith, fewer 0 x first (omega (arith, low, shares.count)), served.globals x low));
+    arguments = λ i x at. enough (list_at demands.arguments u) i (found.wanted 0 x) (found.least.are.most 0 x) (omega (arith, fewer 0 x first (received_low graph can i x at), served.arguments i x at));
+    calls = record {
+      on_globals = λ n into v operands next here x low off.
+          enough (list_at demands.backs v) x (found.wanted next x) (found.least.are.most next x)
+          (omega (arith, fewer next x (next_in n into v operands next here) (omega (arith, low, shares.count)), back_global graph.shared into (served.wanted next) x low off, served.calls n into v operands next here x));
+      on_result = λ n y v operands next here.
+          enough (list_at demands.backs v) graph.shared (found.wanted next y) (found.least.are.most next y)
+          (omega (arith, fewer next y (next_in n (Some y) v operands next here) ((can.below n (Call (Some y) v operands next) here).0), back_result graph.shared y (served.wanted next), served.calls n (Some y) v operands next here graph.shared));
+    };
   };
   tell = found.shifts_are;
   least = found.least;

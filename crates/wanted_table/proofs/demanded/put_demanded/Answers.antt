@@ -20,8 +20,8 @@ in_rows program demands number are lt =
     let fit = are.least.served.fit in
     (omega (arith, lt, units, fit.globals.long), omega (arith, lt, units, fit.arguments.long), omega (arith, lt, units, fit.backs.long))
 
-pub around-requires : goal.around-requires
-around-requires c = (in_rows c.args.program.now (demands_of c.args.tables.now) c.args.number c.requires.demands c.requires.number).2
+pub around-around-requires : goal.around-around-requires
+around-around-requires c = (in_rows c.args.program.now (demands_of c.args.tables.now) c.args.number c.requires.demands c.requires.number).2
 
 pub put_asked_tables-requires-clause-globals : goal.put_asked_tables-requires-clause-globals
 put_asked_tables-requires-clause-globals c =
