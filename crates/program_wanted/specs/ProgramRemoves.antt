@@ -15,10 +15,10 @@ use Rattle.wanted_bits.specs.WalkLaws.{FewerEach}
 use Rattle.program_wanted.specs.Demands.{Demands, FitGraphs, asked_at}
 use Rattle.program_wanted.specs.NarrowedUnits.{AreNarrowedUnits}
 
--- A removal of these nodes of the unit u keeps what is wanted, where so many bits are taken for wanted: what stays wants
--- at most these, where as many are asked for around the unit as the demands say; and no more are taken than the demands
--- ask for, of each global and of each argument where the unit is entered, and behind each call of what the called unit
--- hands back
+-- A removal of these nodes of the unit u keeps what is wanted, where so many bits are taken for wanted: what stays
+-- wants at most these, where as many are asked for around the unit as the demands say; and no more are taken than the
+-- demands ask for, of each global and of each argument where the unit is entered, and behind each call of what the
+-- called unit hands back
 pub record KeepsTakenIn (demands : Demands) (graph : GraphShape) (u : ℕ)
     (shifts : ℕ → ℕ → Option Shift) (removed : ℕ → Bool) (taken : ℕ → ℕ → ℕ) : Type 0 where
   pub keeps : KeepsTaken (asked_at demands graph.shared u) graph shifts removed taken

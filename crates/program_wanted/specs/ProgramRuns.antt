@@ -1,5 +1,5 @@
--- Beside one another run the program and the one in which no unit computes what no other needs of it: in each frame each
--- variable agrees with what it was in the bits that are wanted. Cited by contracts.
+-- Beside one another run the program and the one in which no unit computes what no other needs of it: in each frame
+-- each variable agrees with what it was in the bits that are wanted. Cited by contracts.
 use Rattle.std.specs.Prelude.{◌≡◌, ℕ, ◌≤◌, false, List, [], ◌∷◌, ℤ, Option}
 use Rattle.mir_base.specs.Frames.{Frame}
 use Rattle.mir_base.specs.Runs.{Caller, Control, Running, Ended, Stopped, State}
@@ -17,8 +17,8 @@ pub record FramesAgree (wanted : ℕ → ℕ → ℕ) (f g : Frame) : Type 0 whe
   pub place : g.place ≡ f.place
   pub values : (x : ℕ) → AgreeBelow (wanted f.place x) (f.values x) (g.values x)
 
--- two frames of one unit wait to go on at one node, and so does each variable agree that the answer does not set: all but
--- the globals and the one that the result goes to
+-- two frames of one unit wait to go on at one node, and so does each variable agree that the answer does not set: all
+-- but the globals and the one that the result goes to
 pub record CallersAgree (shared : ℕ) (wanted : ℕ → ℕ → ℕ → ℕ) (p q : Caller) : Type 0 where
   pub unit : q.unit ≡ p.unit
   pub into : q.into ≡ p.into

@@ -28,8 +28,8 @@ pub fn wanted_program(alloc: Global, program: &Program) -> Result<Program, Memor
     ensures only { IfOk result (IsOnly (IsWantedProgram program.now)) }
     ensures keeps { IfOk result (KeepsRuns program.now) }
 
-    // no removal of assignments over all units that keeps what is wanted, whatever is asked for around them and taken for
-    // wanted, takes one that stays here
+    // no removal of assignments over all units that keeps what is wanted, whatever is asked for around them and taken
+    // for wanted, takes one that stays here
     ensures most { IfOk result (ProgramRemovesMost program.now) }
 
     // along each run, in each frame, each variable agrees with what it was in the bits that are wanted
@@ -47,8 +47,8 @@ pub fn wanted_program(alloc: Global, program: &Program) -> Result<Program, Memor
 }
 
 /// The least demands of the units of a program, as `wanted_program` has them: for each unit how many bits are asked for
-/// of each global and each argument where it is entered, and of each global and of the result where it returns. It fails
-/// only with `Memory`.
+/// of each global and each argument where it is entered, and of each global and of the result where it returns. It
+/// fails only with `Memory`.
 pub fn program_demands(alloc: Global, program: &Program) -> Result<Tables, Memory>
     ensures { IfOk result (λ tables. AreProgramDemands program.now (demands_of tables)) }
 {

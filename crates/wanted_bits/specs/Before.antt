@@ -16,7 +16,8 @@ pub record HaveNumbers (graph : GraphShape) (wanted : ℕ → ℕ → ℕ) (rows
       → bits_at (list_at rows n) x ≡ wanted n x
 
 -- the least numbers before each node, by the shifts that hold, where so many bits are asked for around the unit
-pub record AreWantedBeforeBy (asked : Asked) (graph : GraphShape) (rows : List (List ℕ)) : Type 0 where
+pub record AreWantedBeforeBy (asked : Asked) (graph : GraphShape) (rows : List (List ℕ))
+    : Type 0 where
   pub shifts : ℕ → ℕ → Option Shift
   pub tell : TellShifts graph shifts
   pub wanted : ℕ → ℕ → ℕ

@@ -48,7 +48,8 @@ fn whole_before(alloc: Global, graph: &Graph, whole: &Widths) -> Result<Vec<Widt
     Ok(rows)
 }
 
-/// The same of a unit, where so many bits are asked for around it, as `narrow_in` has them. It fails only with `Memory`.
+/// The same of a unit, where so many bits are asked for around it, as `narrow_in` has them. It fails only with
+/// `Memory`.
 pub fn wanted_before_in(
     alloc: Global,
     graph: &Graph,

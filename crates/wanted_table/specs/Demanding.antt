@@ -1,5 +1,5 @@
--- The text of the tables of what the units of a program want of one another. Cited by contracts, those of the crates above
--- too.
+-- The text of the tables of what the units of a program want of one another. Cited by contracts, those of the crates
+-- above too.
 use Rattle.std.specs.Prelude.{◌≡◌, ℕ, List, ◌++◌, codes, length, slice_get, Some}
 use Rattle.mir_base.specs.Shapes.{ProgramShape, UnitShape}
 use Rattle.node_list.specs.Lists.{list_at}
@@ -25,8 +25,8 @@ text_asked names globals arguments back steps =
     ++ entered_line steps.cleaned.shared (length steps.cleaned.received) globals arguments
     ++ returned_line steps.cleaned.shared back
 
--- the text is that of these graphs, with these numbers between them, and a line for each node of the cleaned graph, where
--- so many bits are asked for around the unit
+-- the text is that of these graphs, with these numbers between them, and a line for each node of the cleaned graph,
+-- where so many bits are asked for around the unit
 pub record ShowsAsked (names : List (List ℕ)) (asked : Asked) (globals arguments back : List ℕ)
     (steps : PassSteps) (text : List ℕ) : Type 0 where
   pub lines : List ℕ
@@ -35,8 +35,8 @@ pub record ShowsAsked (names : List (List ℕ)) (asked : Asked) (globals argumen
       ≡ text_asked names globals arguments back steps ++ lines
       ++ text_behind names (codes "demanded") steps
 
--- the text is that of the unit of this number among these: of the graphs that the pass makes of it by these demands, and
--- of what is wanted before the nodes of its cleaned graph
+-- the text is that of the unit of this number among these: of the graphs that the pass makes of it by these demands,
+-- and of what is wanted before the nodes of its cleaned graph
 pub record IsDemandedAt (demands : Demands) (units : List UnitShape) (number : ℕ) (text : List ℕ)
     : Type 0 where
   pub unit : UnitShape

@@ -17,9 +17,9 @@ use program_wanted::{Tables, around, program_demands};
 use std::alloc::Global;
 use wanted_bits::Around;
 
-/// The tables of `demanded`: for each unit of a program how many bits are asked for around it, by the least demands of the
-/// units, how many of its variables are wanted before each node, and the graphs on the way to that in which no others are
-/// computed. It fails only with `Memory`.
+/// The tables of `demanded`: for each unit of a program how many bits are asked for around it, by the least demands of
+/// the units, how many of its variables are wanted before each node, and the graphs on the way to that in which no
+/// others are computed. It fails only with `Memory`.
 pub fn text_of_demanded(alloc: Global, program: &Program) -> Result<Vec<u8>, Memory>
     ensures { IfOk result (λ text. ShowsDemanded program.now text.items) }
 {
@@ -67,8 +67,8 @@ fn put_demanded(
     Ok(())
 }
 
-/// Appends the graphs of the unit of this number, what is asked for around it, and what is wanted before the nodes of the
-/// cleaned one.
+/// Appends the graphs of the unit of this number, what is asked for around it, and what is wanted before the nodes of
+/// the cleaned one.
 fn put_asked_tables(
     alloc: Global,
     text: &mut Vec<u8>,
