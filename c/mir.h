@@ -62,9 +62,9 @@ uint8_t mir_call(const uint8_t *words, size_t words_length,
 
 /* Puts what each pass finds out about each node of the program of this text into the room, as the program mir_tables
  * writes it with these words: none, or one of "optimise", which asks for the same, "divisions", "tails", "join",
- * "bounds" and "wanted", with its zero byte. No words are a length of 0, behind a pointer that is not null; other words,
- * and bytes that spell none, are refused. All else is as for mir_call; the statuses are MIR_DONE, MIR_WORDS, MIR_TEXT,
- * MIR_NO_ROOM and MIR_NO_MEMORY. */
+ * "bounds", "wanted" and "demanded", with its zero byte. No words are a length of 0, behind a pointer that is not null;
+ * other words, and bytes that spell none, are refused. All else is as for mir_call; the statuses are MIR_DONE,
+ * MIR_WORDS, MIR_TEXT, MIR_NO_ROOM and MIR_NO_MEMORY. */
 uint8_t mir_tables_call(const uint8_t *words, size_t words_length,
                         const uint8_t *text, size_t text_length,
                         uint8_t *out, size_t out_room, size_t *out_length,

@@ -168,7 +168,8 @@ class Bits(unittest.TestCase):
         for number in range(self.DRAWN // (5 if GIVEN.few else 1)):
             texts[f'drawn {number}'] = mir_cases.drawn_program(number)
             texts[f'narrow {number}'] = Narrow(number).program()
-        data = {name: ran([GIVEN.tables, 'wanted'], text).stdout.decode('latin-1') for name, text in texts.items()}
+        data = {f'{word} {name}': ran([GIVEN.tables, word], text).stdout.decode('latin-1')
+                for word in ('wanted', 'demanded') for name, text in texts.items()}
         found = by_node(tables_page.MODEL, json.dumps(data), CHAINS)
         self.assertEqual((found['apart'], found['wrong'], found['missed']), ([], [], 0))
         self.assertGreater(min(found['numbers'], found['chains']), 1000)

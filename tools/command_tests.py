@@ -203,7 +203,7 @@ class CommandLine(unittest.TestCase):
 class Library(unittest.TestCase):
     """The library for C, compiled into programs, and by Python."""
 
-    TABLED = ('divisions', 'tails', 'join', 'bounds', 'wanted')
+    TABLED = ('divisions', 'tails', 'join', 'bounds', 'wanted', 'demanded')
     COMMANDS = (['optimise'], ['stages'], ['move'], ['ranges'], ['divisions'], ['tails'], ['join'], ['thorough'],
                 ['passes', 'clean', 'bounds', 'called'], ['run', '1000'], ['run', '50', '3', '5'], ['trial', '7', '3'],
                 [], ['no', 'command'], ['run', 'x'], ['passes', 'x'],

@@ -50,6 +50,7 @@ static uint8_t out[1 << 16], line[200];
 static const struct { const char *name; int tables; const char *word; } asked[] = {
     {"optimise", 0, "optimise"}, {"tables", 1, ""}, {"tables divisions", 1, "divisions"}, {"tables tails", 1, "tails"},
     {"tables join", 1, "join"}, {"tables bounds", 1, "bounds"}, {"tables wanted", 1, "wanted"},
+    {"tables demanded", 1, "demanded"},
 };
 
 /* One call, whose blocks are counted. */

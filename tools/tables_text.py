@@ -11,10 +11,10 @@ from mir_text import Fault
 KINDS = ('start', 'skip', 'assign', 'print', 'guard', 'call', 'test', 'return')
 ITEMS = {'expression': ('motion', 'divisions'), 'copy': ('copies',), 'pattern': ('sink',), 'variable': ('prune',)}
 PASSES = ('clean', 'fold', 'number', 'copies', 'split', 'motion', 'sink', 'prune', 'divisions', 'tails', 'join',
-          'bounds', 'wanted')
+          'bounds', 'wanted', 'demanded')
 
 # The first line of a text, with the word of the command whose tables it has; none stands for `optimise`.
-HEAD = re.compile(r'^tables 1(?: (?:divisions|tails|join|bounds|wanted))?$', re.MULTILINE)
+HEAD = re.compile(r'^tables 1(?: (?:divisions|tails|join|bounds|wanted|demanded))?$', re.MULTILINE)
 
 # What a call is in tail position or not, or what becomes of it.
 POSITIONS = ('loop', 'tail', 'dropped', 'global', 'then', 'joined', 'stays')
@@ -175,6 +175,14 @@ class Reader:
         if int(number) != len(wanted):
             raise Fault('out of order')
         wanted.append([int(one) for one in bits])
+
+    def line_entered(self, rest: str) -> None:
+        """How many bits are asked for of each global and each argument where the unit is entered."""
+        self.facts['entered'] = [int(one) for one in rest.split()]
+
+    def line_returned(self, rest: str) -> None:
+        """How many are asked for of each global and of its result where it returns."""
+        self.facts['returned'] = [int(one) for one in rest.split()]
 
     def line_term(self, rest: str) -> None:
         """A term."""

@@ -363,7 +363,7 @@ class Exercises(unittest.TestCase):
         parts = re.split(r'(?m)^### (?:Two|One) for each .*$', text)[1:]
         for_passes, further, for_commands = (re.findall(r'(?m)^\| `(\w+)` \|', part) for part in parts)
         self.assertEqual(for_passes, [name for name in tables_text.PASSES
-                                      if name not in ('divisions', 'tails', 'join', 'bounds', 'wanted')])
+                                      if name not in ('divisions', 'tails', 'join', 'bounds', 'wanted', 'demanded')])
         words = re.search(r"local passes='(.*)'", (TOP / 'tools/completion/mir.bash').read_text())[1].split()
         self.assertEqual(set(further), set(words) - {*for_passes, 'optimise'})
         usage = ran([GIVEN.mir]).stderr.decode().removeprefix('usage: mir ').split(' | ')

@@ -6,7 +6,7 @@ _mir() {
     local commands='optimise stages move ranges divisions tails join thorough passes run trial'
     local passes='tails join arguments optimise clean fold number copies motion divisions sink comparisons terms bounds'
     passes+=' extensions unread wanted demanded called'
-    local tables='optimise divisions tails join bounds wanted'
+    local tables='optimise divisions tails join bounds wanted demanded'
     COMPREPLY=()
     if [[ $before == -o ]]; then
         mapfile -t COMPREPLY < <(compgen -f -- "$word")

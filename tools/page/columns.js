@@ -36,6 +36,8 @@ const COLUMNS = {
       n => whyWanted(pass, n, v)));
   },
 
+  demanded(pass) { return COLUMNS.wanted(pass); },
+
   fold(pass) {
     const states = pass.facts.states || [];
     const { into } = edgesOf(pass.before);

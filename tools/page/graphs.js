@@ -46,6 +46,7 @@ const SAY = {
   tails: ['tails', 'A call of the unit itself whose answer is returned next becomes a jump to its beginning.'],
   bounds: ['bounds', 'Where the value of a variable lies between two numbers, tests and trap instructions may be decided, and right sides known.'],
   wanted: ['wanted', 'Assignments of which no bit can matter go, and so do operators and shifts that change no bit that can.'],
+  demanded: ['demanded', 'The same where of what units hand over to one another no more bits can matter than the others want.'],
   join: ['join', 'A call of a leaf, a small unit that calls none, becomes the code of that unit.'],
   sink: ['sink', 'An assignment is put off along each path to where its value is needed.'],
   prune: ['prune', 'An assignment whose variable nobody reads before it is assigned again goes away.'],

@@ -189,6 +189,7 @@ function whyNothing(pass) {
     fold: 'No operand has one known value, no test is decided, and no identity applies.',
     bounds: 'No operand has one value, and no right side, test or trap instruction is decided by the bounds.',
     wanted: 'Of each assignment that can go a bit is wanted, and each operator changes one that is.',
+    demanded: 'Of each assignment that can go, and of all that is handed over, a bit is wanted, and each operator changes one that is.',
     number: 'No right side has a term that a variable already has.',
       copies: itemsOf(pass).length ? 'No node reads a variable where it is a copy.' : 'There is no copy in this graph.',
     split: 'No node is entered by more than one edge.',

@@ -18,7 +18,7 @@ function cut(line, count) {
 const wordsOf = line => line.split(' ').filter(Boolean);
 
 // The first line of a text, with the word of the command whose tables it has; none stands for `optimise`.
-const HEAD = /^tables 1(?: (divisions|tails|join|bounds|wanted))?$/;
+const HEAD = /^tables 1(?: (divisions|tails|join|bounds|wanted|demanded))?$/;
 
 // Reads a text. Its units, stages and passes are found at once; what one of them tells is read when it is asked for.
 class TablesReader {
@@ -169,7 +169,7 @@ const OF_STAGE = {
 };
 
 // What may be told of a pass.
-const TOLD = ['rows', 'edges', 'items', 'states', 'wanted', 'terms', 'before', 'calls', 'other'];
+const TOLD = ['rows', 'edges', 'items', 'states', 'wanted', 'entered', 'returned', 'terms', 'before', 'calls', 'other'];
 
 // A pass by its name, and what is told of it, which is read when some of it is asked for.
 function factsOf(reader, block) {
@@ -211,6 +211,8 @@ const LINES = {
     (facts.states ??= []).push(values.length === 1 && values[0] === 'unreached' ? null : values);
   },
   wanted(facts, rest) { (facts.wanted ??= []).push(wordsOf(rest).slice(1).map(Number)); },
+  entered(facts, rest) { facts.entered = wordsOf(rest).map(Number); },
+  returned(facts, rest) { facts.returned = wordsOf(rest).map(Number); },
   term(facts, rest) { (facts.terms ??= []).push(wordsOf(rest).slice(1)); },
   terms(facts, rest) {
     const [, root, ...held] = wordsOf(rest);

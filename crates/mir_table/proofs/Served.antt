@@ -252,6 +252,7 @@ further_subject further.Tails call trail has = tt
 further_subject further.Join call trail has = tt
 further_subject further.Bounds call trail has = tt
 further_subject further.Wanted call trail has = tt
+further_subject further.Demanded call trail has = tt
 
 -- and what they show
 pub further_shows : (f : Further) (call : Call) (trail : MoveTrail) (has : HasDivided call trail) (text : List ℕ) → IsTextOf f trail text → ShowsKind (kind_from f) trail.source (further_subject f call trail has) text
@@ -261,6 +262,7 @@ further_shows further.Tails call trail has text shows = shows
 further_shows further.Join call trail has text shows = shows
 further_shows further.Bounds call trail has text shows = shows
 further_shows further.Wanted call trail has text shows = shows
+further_shows further.Demanded call trail has text shows = shows
 
 -- ---- words
 

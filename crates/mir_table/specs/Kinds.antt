@@ -6,13 +6,14 @@ use Rattle.mir_opt.specs.declared.trails.MoveTrail.{MoveTrail}
 use Rattle.mir_opt.specs.declared.trails.Trail.{Trail}
 use Rattle.mir_top.specs.Outputs.{Divides, Optimises}
 use Rattle.bound_table.specs.Bounded.{ShowsBounds}
+use Rattle.wanted_table.specs.Demanding.{ShowsDemanded}
 use Rattle.wanted_table.specs.Narrowings.{ShowsWanted}
 use Rattle.call_table.specs.Joins.{ShowsJoins}
 use Rattle.call_table.specs.Tails.{ShowsTails}
 use Rattle.division_table.specs.Trails.{ShowsDivisions}
 use Rattle.pass_table.specs.Trails.{ShowsTables}
 use Rattle.mir_table.specs.declared.kinds.TableKind.{TableKind}
-use Rattle.mir_table.specs.declared.kinds.TableKind.TheVariants.{Optimise, Divisions, Tails, Join, Bounds, Wanted}
+use Rattle.mir_table.specs.declared.kinds.TableKind.TheVariants.{Optimise, Divisions, Tails, Join, Bounds, Wanted, Demanded}
 
 -- ---- words
 
@@ -24,7 +25,8 @@ kind_named word =
     if is_text (codes "tails") word then Some Tails else
     if is_text (codes "join") word then Some Join else
     if is_text (codes "bounds") word then Some Bounds else
-    if is_text (codes "wanted") word then Some Wanted else None
+    if is_text (codes "wanted") word then Some Wanted else
+    if is_text (codes "demanded") word then Some Demanded else None
 
 -- the tables that these words ask for: those of `optimise` where there is no word
 abbrev pub kind_of : List (List ℕ) → Option TableKind
@@ -52,6 +54,7 @@ HasSubject Tails program = Unit {0}
 HasSubject Join program = Unit {0}
 HasSubject Bounds program = Unit {0}
 HasSubject Wanted program = Unit {0}
+HasSubject Demanded program = Unit {0}
 
 -- the text is that of the tables
 abbrev pub ShowsKind : (kind : TableKind) (program : ProgramShape) → HasSubject kind program
@@ -62,3 +65,4 @@ ShowsKind Tails program subject text = ShowsTails program text
 ShowsKind Join program subject text = ShowsJoins program text
 ShowsKind Bounds program subject text = ShowsBounds program text
 ShowsKind Wanted program subject text = ShowsWanted program text
+ShowsKind Demanded program subject text = ShowsDemanded program text

@@ -31,7 +31,7 @@ AsksFor command words = command_of words ≡ Some command
 abbrev pub table_usage : Complaint
 table_usage = record {
   status = 1;
-  line = codes "usage: mir_tables [optimise | divisions | tails | join | bounds | wanted]\n";
+  line = codes "usage: mir_tables [optimise | divisions | tails | join | bounds | wanted | demanded]\n";
 }
 
 -- the call ended with this complaint

@@ -15,8 +15,8 @@ use pass_table::text_of_tables;
 use std::alloc::Global;
 
 /// Writes the tables of the program that is read from the source to `out`, and answers the status. The words are none,
-/// or one that says which tables: `optimise`, as where there is none, `divisions`, `tails`, `join`, `bounds` or
-/// `wanted`; with other words it writes how to call it to `err`, and reads nothing. Where something fails, one line
+/// or one that says which tables: `optimise`, as where there is none, `divisions`, `tails`, `join`, `bounds`, `wanted`
+/// or `demanded`; with other words it writes how to call it to `err`, and reads nothing. Where something fails, one line
 /// goes to `err`, with the status that `mir` has for it.
 ///
 /// All of the output is made before anything is written, and once writing has begun nothing is allocated.
@@ -62,6 +62,7 @@ fn asked_tables<S: Source, K: Sink, E: Sink>(
         TableKind::Join => further_tables(alloc, Further::Join, source, out, err),
         TableKind::Bounds => further_tables(alloc, Further::Bounds, source, out, err),
         TableKind::Wanted => further_tables(alloc, Further::Wanted, source, out, err),
+        TableKind::Demanded => further_tables(alloc, Further::Demanded, source, out, err),
     }
 }
 

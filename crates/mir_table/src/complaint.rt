@@ -12,7 +12,7 @@ pub(crate) fn complain_of_usage<E: Sink>(err: &mut E) -> u8
 {
     let _ = write_all(
         err,
-        b"usage: mir_tables [optimise | divisions | tails | join | bounds | wanted]\n",
+        b"usage: mir_tables [optimise | divisions | tails | join | bounds | wanted | demanded]\n",
     );
     1
 }

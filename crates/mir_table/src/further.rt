@@ -15,7 +15,7 @@ use mir_opt::MoveTrail;
 use mir_outside::{FaultlessSink, Memory, Sink, Source};
 use mir_top::{complain_of_memory, one_thing_is_due, top};
 use std::alloc::Global;
-use wanted_table::text_of_wanted;
+use wanted_table::{text_of_demanded, text_of_wanted};
 
 /// Tables other than those of all passes.
 #[derive(Clone, Copy)]
@@ -30,6 +30,8 @@ pub(crate) enum Further {
     Bounds,
     /// Those of the pass that drops unwanted bits.
     Wanted,
+    /// Those of the same over units.
+    Demanded,
 }
 
 /// Writes these tables of the program that is read from the source.
@@ -100,5 +102,6 @@ fn text_of(alloc: Global, further: Further, trail: &MoveTrail) -> Result<Vec<u8>
         Further::Join => text_of_joins(alloc, &trail.source),
         Further::Bounds => text_of_bounds(alloc, &trail.source),
         Further::Wanted => text_of_wanted(alloc, &trail.source),
+        Further::Demanded => text_of_demanded(alloc, &trail.source),
     }
 }

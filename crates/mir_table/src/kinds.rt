@@ -20,6 +20,8 @@ pub enum TableKind {
     Bounds,
     /// `wanted`: how many bits of variables are wanted.
     Wanted,
+    /// `demanded`: how many are wanted by what units ask of one another.
+    Demanded,
 }
 
 impl TableKind {
@@ -51,6 +53,8 @@ fn kind_named(word: &[u8]) -> Option<TableKind>
         Some(TableKind::Bounds)
     } else if is_text(b"wanted", word) {
         Some(TableKind::Wanted)
+    } else if is_text(b"demanded", word) {
+        Some(TableKind::Demanded)
     } else {
         None
     }

@@ -1,7 +1,7 @@
 // Calls of `tables` over devices in memory.
 use crate::examples::{EXAMPLES, SMALLEST_TABLES};
 use crate::tables;
-use crate::word_examples::{BOUNDS, DIVISIONS, JOINS, TAILS, WANTED};
+use crate::word_examples::{BOUNDS, DEMANDED, DIVISIONS, JOINS, TAILS, WANTED};
 use mir_outside::{MemSink, MemSource};
 use std::alloc::{AllocError, Global};
 use std::test::Fail;
@@ -86,6 +86,7 @@ fn tables_of_words(rt: HostRuntime) -> Result<(), Fail> {
     assert_eq!(rt; first_wrong(rt.alloc(), "join", JOINS)?, None);
     assert_eq!(rt; first_wrong(rt.alloc(), "bounds", BOUNDS)?, None);
     assert_eq!(rt; first_wrong(rt.alloc(), "wanted", WANTED)?, None);
+    assert_eq!(rt; first_wrong(rt.alloc(), "demanded", DEMANDED)?, None);
     Ok(())
 }
 
@@ -107,7 +108,7 @@ fn whole_calls(rt: HostRuntime) -> Result<(), Fail> {
         usage.left(
             1,
             b"",
-            b"usage: mir_tables [optimise | divisions | tails | join | bounds | wanted]\n"
+            b"usage: mir_tables [optimise | divisions | tails | join | bounds | wanted | demanded]\n"
         )
     );
     Ok(())

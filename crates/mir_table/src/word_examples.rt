@@ -392,3 +392,60 @@ node 2 assign 3 y <- b and 15
 node 3 return - return y
 pass clean
 ";
+
+/// Under `demanded`: how many bits the units want of one another.
+pub const DEMANDED: &str = "\
+# four bits of one argument, and none of the other
+main: begin
+receive a(val)
+m <- a * a
+b <- f,(a,int;m,int)
+b <- b and 15
+return b
+end
+f: begin
+receive v(val)
+receive w(val)
+y <- v and 255
+return y
+end
+$
+tables 1 demanded
+unit main
+stage lower
+globals 0
+$
+pass demanded
+entered 4
+returned 64
+wanted 0 4 0 0
+wanted 1 4 0 0
+wanted 2 4 0 0
+wanted 3 0 0 4
+wanted 4 0 0 64
+stage demanded
+globals 0
+vars a m b
+received a
+node 0 start 1
+node 1 skip 2
+node 2 call 3 b <- f,(a,int;0,int)
+node 3 assign 4 b <- b and 15
+node 4 return - return b
+pass clean
+$
+pass demanded
+entered 4 0
+returned 4
+wanted 0 4 0 0
+wanted 1 4 0 0
+wanted 2 0 0 4
+stage demanded
+globals 0
+vars v w y
+received v w
+node 0 start 1
+node 1 assign 2 y <- v
+node 2 return - return y
+pass clean
+";

@@ -5,3 +5,7 @@ pub mod Marks
 pub mod Fresh
 pub mod UnitServes
 pub mod FirstZeros
+pub mod RunsBeside
+pub mod TakenOver
+pub mod PathsStay
+pub mod UnitsKept

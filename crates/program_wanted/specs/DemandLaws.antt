@@ -19,13 +19,13 @@ use Rattle.wanted_bits.specs.Asks.{back_list, into_bits, kept_bits}
 use Rattle.wanted_bits.specs.BitsOrder.{HasFew}
 use Rattle.wanted_bits.specs.declared.table.Shift.{Shift}
 use Rattle.wanted_bits.specs.Found.{AreFoundNodes}
-use Rattle.wanted_bits.specs.MostRemoved.{TellShifts}
+use Rattle.wanted_bits.specs.MostRemoved.{KeepsTaken, TellShifts}
 use Rattle.wanted_bits.specs.NarrowedLaws.{same_option, wanted_on}
 use Rattle.wanted_bits.specs.Walking.{bits_at, is_into}
 use Rattle.wanted_bits.specs.WalkLaws.{FewerEach}
 use Rattle.wanted_bits.specs.Wanted.{AreLeastWantedBy, AreWantedBy, Asked, wanted_among, wanted_at, wanted_global, wanted_of}
 use Rattle.program_wanted.specs.Demands.{AreLeastDemands, AreNumberRows, AskNoMore, Demands, FewerRows, FitGraphs, IsServed, asked_at}
-use Rattle.program_wanted.specs.DemandStacks.{Sides}
+use Rattle.program_wanted.specs.DemandStacks.{LeastSides}
 
 -- at most 64 bits that a list has, as it asks for them
 pub enough : (l : List ℕ) (x k : ℕ) → k ≤ 64 → k ≤ bits_at l x → k ≤ width_at l x
@@ -163,6 +163,15 @@ module _ (asked more : Asked) (than : AsksMore asked more) where
     behind = are.behind;
   }
 
+  -- and so does what a removal keeps
+  pub keeps_less : (graph : GraphShape) (shifts : ℕ → ℕ → Option Shift) (removed : ℕ → Bool) (taken : ℕ → ℕ → ℕ) → KeepsTaken more graph shifts removed taken → KeepsTaken asked graph shifts removed taken
+  keeps_less graph shifts removed taken keeps = record {
+    most = keeps.most;
+    stays = λ n x node here off. omega (arith, at_more graph (shifts n) taken node x, keeps.stays n x node here off);
+    behind = keeps.behind;
+    gone = keeps.gone;
+  }
+
 -- ---- rows
 
 -- rows of one shape are equally long
@@ -211,21 +220,25 @@ pub received_low : (graph : GraphShape) → CanMake graph.vars graph.received gr
 received_low graph can i x at = below_at (length graph.vars) graph.received i x can.received_below at
 
 -- what is made of a graph by demands that serve its unit goes with the graph
-pub made_sides : (demands : Demands) (u : ℕ) (graph narrowed : GraphShape) → CanMake graph.vars graph.received graph.nodes → SharesVars graph.shared graph.vars graph.received → AreFoundNodes (asked_at demands graph.shared u) graph narrowed.nodes → narrowed.shared ≡ graph.shared → narrowed.received ≡ graph.received → IsServed demands graph u → Sides demands u graph narrowed
+pub made_sides : (demands : Demands) (u : ℕ) (graph narrowed : GraphShape) → CanMake graph.vars graph.received graph.nodes → SharesVars graph.shared graph.vars graph.received → AreFoundNodes (asked_at demands graph.shared u) graph narrowed.nodes → narrowed.shared ≡ graph.shared → narrowed.received ≡ graph.received → IsServed demands graph u → LeastSides demands u graph narrowed
 made_sides demands u graph narrowed can shares found shared received served = record {
-  are = record { shifts = found.shifts; wanted = found.wanted; shifts_hold = found.shifts_hold; are_wanted = found.least.are; nodes_are = found.nodes_are };
-  shared = shared;
-  received = received;
-  globals = λ x low. enough (list_at demands.globals u) x (found.wanted 0 x) (found.least.are.most 0 x) (omega (arith, fewer 0 x first (omega (arith, low, shares.count)), served.globals x low));
-  arguments = λ i x at. enough (list_at demands.arguments u) i (found.wanted 0 x) (found.least.are.most 0 x) (omega (arith, fewer 0 x first (received_low graph can i x at), served.arguments i x at));
-  calls = record {
-    on_globals = λ n into v operands next here x low off.
-        enough (list_at demands.backs v) x (found.wanted next x) (found.least.are.most next x)
-        (omega (arith, fewer next x (next_in n into v operands next here) (omega (arith, low, shares.count)), back_global graph.shared into (served.wanted next) x low off, served.calls n into v operands next here x));
-    on_result = λ n y v operands next here.
-        enough (list_at demands.backs v) graph.shared (found.wanted next y) (found.least.are.most next y)
-        (omega (arith, fewer next y (next_in n (Some y) v operands next here) ((can.below n (Call (Some y) v operands next) here).0), back_result graph.shared y (served.wanted next), served.calls n (Some y) v operands next here graph.shared));
+  sides = record {
+    are = record { shifts = found.shifts; wanted = found.wanted; shifts_hold = found.shifts_hold; are_wanted = found.least.are; nodes_are = found.nodes_are };
+    shared = shared;
+    received = received;
+    globals = λ x low. enough (list_at demands.globals u) x (found.wanted 0 x) (found.least.are.most 0 x) (omega (arith, fewer 0 x first (omega (arith, low, shares.count)), served.globals x low));
+    arguments = λ i x at. enough (list_at demands.arguments u) i (found.wanted 0 x) (found.least.are.most 0 x) (omega (arith, fewer 0 x first (received_low graph can i x at), served.arguments i x at));
+    calls = record {
+      on_globals = λ n into v operands next here x low off.
+          enough (list_at demands.backs v) x (found.wanted next x) (found.least.are.most next x)
+          (omega (arith, fewer next x (next_in n into v operands next here) (omega (arith, low, shares.count)), back_global graph.shared into (served.wanted next) x low off, served.calls n into v operands next here x));
+      on_result = λ n y v operands next here.
+          enough (list_at demands.backs v) graph.shared (found.wanted next y) (found.least.are.most next y)
+          (omega (arith, fewer next y (next_in n (Some y) v operands next here) ((can.below n (Call (Some y) v operands next) here).0), back_result graph.shared y (served.wanted next), served.calls n (Some y) v operands next here graph.shared));
+    };
   };
+  tell = found.shifts_are;
+  least = found.least;
 }
   where
     fewer : (n x : ℕ) → n < length graph.nodes → x < length graph.vars → found.wanted n x ≤ served.wanted n x

@@ -9,8 +9,8 @@ use Rattle.mir_base.specs.declared.instructions.Rhs.TheVariants.{Plain, Unary, B
 use Rattle.mir_base.specs.declared.instructions.Test as tests
 use Rattle.mir_base.specs.Numbers.{traps, value_of_op}
 use Rattle.mir_base.specs.declared.operators.Trap.TheVariants.{ZeroDivisor, Raised}
-use Rattle.mir_base.specs.Frames.{Answer, CallEntry, Code, Frame, first_frame, resumed, shared_values, Transition, Continues, Prints, Calls, Returns, Traps}
-use Rattle.mir_base.specs.Runs.{Caller, Running, Stopped, returned}
+use Rattle.mir_base.specs.Frames.{Answer, CallEntry, Code, Frame, resumed, shared_values, Transition, Continues, Prints, Calls, Returns, Traps}
+use Rattle.mir_base.specs.Runs.{Caller, Running, returned}
 use Rattle.mir_base.specs.UnitRuns.{IsCallAnswer, IsEntry}
 use Rattle.mir_base.specs.Units.{assign_transition, assigned, at, guard_transition, operand_value, test_holds}
 use Rattle.flow_graph.specs.declared.nodes.Node.{Node}
@@ -18,15 +18,17 @@ use Rattle.flow_graph.specs.declared.nodes.Node.TheVariants.{Start, Skip, Assign
 use Rattle.flow_graph.specs.Graphs.{GraphShape}
 use Rattle.flow_graph.specs.Machines.{machine_of, node_transition, graph_code}
 use Rattle.mir_sim.specs.Machines.{MachinesKeep, codes_in}
-use Rattle.mir_sim.specs.StackLaws.{leads_step, stacks_keep}
-use Rattle.mir_sim.specs.StackSimulations.{Abreast, MeetsAgain, Stack}
+use Rattle.mir_sim.specs.StackLaws.{control_after, counted_by, frames_by, leads_step, printed_by, stacks_keep}
+use Rattle.mir_sim.specs.StackSimulations.{Abreast, MeetsAgain, Stack, StepsLead, first_stack}
 use Rattle.node_list.specs.Lists.{list_at}
 use Rattle.program_pass.specs.GraphPrograms.{IsGraphProgram, graph_machines, graph_numbered, shared_in}
 use Rattle.wanted_bits.specs.AgreementLaws.{agree_equal, agree_lower}
 use Rattle.wanted_bits.specs.Asking.{width_at}
+use Rattle.wanted_bits.specs.MostRemoved.{TellShifts}
 use Rattle.wanted_bits.specs.Narrowed.{AreNarrowed}
 use Rattle.wanted_bits.specs.NarrowedSteps.{AlikeBy, AnswersAgree, AnswersServe, Beside, EntriesAgree, entered_beside, narrowed_steps}
 use Rattle.wanted_bits.specs.Walking.{is_into}
+use Rattle.wanted_bits.specs.Wanted.{AreLeastWantedBy}
 use Rattle.program_wanted.specs.Demands.{Demands, asked_at}
 
 -- an assignment calls nothing
@@ -67,53 +69,69 @@ pub record Sides (demands : Demands) (u : ℕ) (graph narrowed : GraphShape) : T
       → are.wanted 0 x ≤ width_at (list_at demands.arguments u) i
   pub calls : CallsAsk demands graph are.wanted
 
+-- by the least such numbers
+pub record LeastSides (demands : Demands) (u : ℕ) (graph narrowed : GraphShape) : Type 0 where
+  pub sides : Sides demands u graph narrowed
+  pub tell : TellShifts graph sides.are.shifts
+  pub least : AreLeastWantedBy (asked_at demands graph.shared u) graph sides.are.shifts
+      sides.are.wanted
+
 module _ (graphs middles : List GraphShape) (program : IsGraphProgram graphs) (demands : Demands) (whole : 64 ≤ width_at (list_at demands.backs 0) (shared_in graphs)) (sides : (u : ℕ) → u < length graphs → Sides demands u (graph_numbered graphs u) (graph_numbered middles u)) where
-  abbrev codes : ℕ → Code
+  abbrev pub codes : ℕ → Code
   codes = codes_in (graph_machines graphs)
 
-  abbrev codes' : ℕ → Code
+  abbrev pub codes' : ℕ → Code
   codes' = codes_in (graph_machines middles)
 
   -- how many globals there are
-  abbrev shared : ℕ
+  abbrev pub shared : ℕ
   shared = shared_in graphs
 
   -- frames of a unit that agree on what is wanted
-  record InUnit (u : ℕ) (f g : Frame) : Type 0 where
-    lt : u < length graphs
-    beside : Beside (graph_numbered graphs u).nodes (graph_numbered graphs u).received (sides u lt).are.shifts (sides u lt).are.wanted f g
+  pub record InUnit (u : ℕ) (f g : Frame) : Type 0 where
+    pub lt : u < length graphs
+    pub beside : Beside (graph_numbered graphs u).nodes (graph_numbered graphs u).received (sides u lt).are.shifts (sides u lt).are.wanted f g
 
   -- answers that agree on what is asked of a unit
-  abbrev Answered : ℕ → Answer → Answer → Type 0
+  abbrev pub Answered : ℕ → Answer → Answer → Type 0
   Answered u = AnswersAgree shared (λ x. width_at (list_at demands.backs u) x) (width_at (list_at demands.backs u) shared)
 
   -- two callers wait for the answer of the unit v
-  record Waits (v : ℕ) (p q : Caller) : Type 0 where
-    unit : q.unit ≡ p.unit
-    goes_on : (a a' : Answer) → Answered v a a' → InUnit p.unit (resumed p.into a p.frame) (resumed q.into a' q.frame)
+  pub record Waits (v : ℕ) (p q : Caller) : Type 0 where
+    pub unit : q.unit ≡ p.unit
+    pub into : q.into ≡ p.into
+    pub goes_on : (a a' : Answer) → Answered v a a' → InUnit p.unit (resumed p.into a p.frame) (resumed q.into a' q.frame)
 
   -- below a frame of the unit v; below the last, all bits of the result are asked for
-  abbrev Over : ℕ → List Caller → List Caller → Type 0
+  abbrev pub Over : ℕ → List Caller → List Caller → Type 0
   Over v [] [] = 64 ≤ width_at (list_at demands.backs v) shared
   Over v (p ∷ ps) (q ∷ qs) = Waits v p q × Over p.unit ps qs
   Over v _ _ = ⊥
 
   -- they are as many
-  as_high : (v : ℕ) (ps qs : List Caller) → Over v ps qs → length qs ≤ length ps
-  as_high v [] [] over = omega arith
-  as_high v (p ∷ ps) (q ∷ qs) over = omega (arith, as_high p.unit ps qs over.1)
+  as_high : (v : ℕ) (ps qs : List Caller) → Over v ps qs → length qs ≡ length ps
+  as_high v [] [] over = refl
+  as_high v (p ∷ ps) (q ∷ qs) over = ap suc (as_high p.unit ps qs over.1)
   as_high v [] (q ∷ qs) over = absurd over
   as_high v (p ∷ ps) [] over = absurd over
 
   -- stacks whose frames agree
-  record Related (z : ℕ) (from from' : Stack) : Type 0 where
-    unit : from'.unit ≡ from.unit
-    frames : InUnit from.unit from.frame from'.frame
-    callers : Over from.unit from.callers from'.callers
+  pub record Related (z : ℕ) (from from' : Stack) : Type 0 where
+    pub unit : from'.unit ≡ from.unit
+    pub frames : InUnit from.unit from.frame from'.frame
+    pub callers : Over from.unit from.callers from'.callers
+
+  -- One step of each side, by these transitions: they print the same, the second evaluates no more operators, they make
+  -- as many frames, and they lead to where the two are abreast
+  pub record StepsMeet (ps qs : List Caller) (u : ℕ) (t t' : Transition) : Type 0 where
+    pub prints : printed_by t' ≡ printed_by t
+    pub cheaper : counted_by t' ≤ counted_by t
+    pub as_deep : frames_by qs t' ≡ frames_by ps t
+    pub abreast : Abreast Related 0 (control_after u ps t) (control_after u qs t')
 
   -- ---- one step of each side
 
-  module _ (z u : ℕ) (lt : u < length graphs) (f g : Frame) (ps qs : List Caller) (over : Over u ps qs) where
+  module _ (u : ℕ) (lt : u < length graphs) (f g : Frame) (ps qs : List Caller) (over : Over u ps qs) where
     abbrev graph : GraphShape
     graph = graph_numbered graphs u
 
@@ -143,47 +161,21 @@ module _ (graphs middles : List GraphShape) (program : IsGraphProgram graphs) (d
     alike : graph.shared ≡ shared
     alike = program.globals u lt
 
-    steps_meet : (t t' : Transition) → codes u f ≡ t → codes' u g ≡ t' → AlikeBy (asked_at demands graph.shared u) graph.shared side.are.wanted S t t' → ((called : ℕ) (entry : CallEntry) (into : Option ℕ) (next : Frame) → t ≡ Calls called entry into next → CallsHere called entry into next)
-        → MeetsAgain Related codes codes' z (record { unit = u; frame = f; callers = ps }) (record { unit = u; frame = g; callers = qs })
-    steps_meet (Continues n next) (Continues m next') is is' both calls = record {
-      steps = 1;
-      steps' = 1;
-      to = Running u next ps;
-      to' = Running u next' qs;
-      prints = [];
-      counted = n;
-      counted' = m;
-      frames = 0;
-      frames' = 0;
-      leads = leads_step codes u f ps (Continues n next) is;
-      leads' = leads_step codes' u g qs (Continues m next') is';
-      cheaper = omega (arith, both.0);
-      shallower = le_refl 0;
-      measure = 0;
+    steps_meet : (t t' : Transition) → AlikeBy (asked_at demands graph.shared u) graph.shared side.are.wanted S t t' → ((called : ℕ) (entry : CallEntry) (into : Option ℕ) (next : Frame) → t ≡ Calls called entry into next → CallsHere called entry into next)
+        → StepsMeet ps qs u t t'
+    steps_meet (Continues n next) (Continues m next') both calls = record {
+      prints = refl;
+      cheaper = both.0;
+      as_deep = refl;
       abreast = record { unit = refl; frames = record { lt = lt; beside = both.1 }; callers = over };
-      moves = inl (omega arith);
-      moves' = inl (omega arith);
     }
-    steps_meet (Prints v next) (Prints w next') is is' both calls = record {
-      steps = 1;
-      steps' = 1;
-      to = Running u next ps;
-      to' = Running u next' qs;
-      prints = v ∷ [];
-      counted = 0;
-      counted' = 0;
-      frames = 0;
-      frames' = 0;
-      leads = leads_step codes u f ps (Prints v next) is;
-      leads' = leads_step codes' u g qs (Prints v next') (is' ∙ ap (λ a. Prints a next') (sym both.0));
+    steps_meet (Prints v next) (Prints w next') both calls = record {
+      prints = ap (λ a. a ∷ []) (sym both.0);
       cheaper = le_refl 0;
-      shallower = le_refl 0;
-      measure = 0;
+      as_deep = refl;
       abreast = record { unit = refl; frames = record { lt = lt; beside = both.1 }; callers = over };
-      moves = inl (omega arith);
-      moves' = inl (omega arith);
     }
-    steps_meet (Calls called entry into next) (Calls called' entry' into' next') is is' both calls =
+    steps_meet (Calls called entry into next) (Calls called' entry' into' next') both calls =
         let there = calls called entry into next refl in
         let fits = program.calls u lt called (length there.operands) (record { number = there.place; node = Call into called there.operands there.to; here = there.here; calls = refl }) in
         let callee = sides called fits.0 in
@@ -193,38 +185,25 @@ module _ (graphs middles : List GraphShape) (program : IsGraphProgram graphs) (d
         subst (λ n. EntriesAgree n (λ x. width_at (list_at demands.globals called) x) (λ i. width_at (list_at demands.arguments called) i) entry entry') (sym callee_shared) both.2 in
         let is_entry : IsEntry (machine_of (graph_numbered graphs called)) entry = record { long = there.entry_is ∙ fits.1; numbers = agree.numbers; globals = agree.globals_are } in
         let is_entry' : IsEntry (machine_of (graph_numbered graphs called)) entry' = record { long = agree.long ∙ there.entry_is ∙ fits.1; numbers = agree.numbers'; globals = agree.globals_are' } in
-        let same : codes' u g ≡ Calls called entry' into next' = is' ∙ ap (λ a. Calls a entry' into' next') (sym both.0) ∙ ap (λ a. Calls called entry' a next') (sym both.1) in
         record {
-          steps = 1;
-          steps' = 1;
-          to = Running called (first_frame entry) (record { unit = u; into = into; frame = next } ∷ ps);
-          to' = Running called (first_frame entry') (record { unit = u; into = into; frame = next' } ∷ qs);
-          prints = [];
-          counted = 0;
-          counted' = 0;
-          frames = suc (suc (length ps));
-          frames' = suc (suc (length qs));
-          leads = leads_step codes u f ps (Calls called entry into next) is;
-          leads' = leads_step codes' u g qs (Calls called entry' into next') same;
+          prints = refl;
           cheaper = le_refl 0;
-          shallower = omega (arith, as_high u ps qs over);
-          measure = 0;
+          as_deep = ap (λ n. suc (suc n)) (as_high u ps qs over);
           abreast = record {
-            unit = refl;
+            unit = sym both.0;
             frames = record { lt = fits.0; beside = entered_beside (graph_numbered graphs called) can callee.are.shifts callee.are.wanted callee.are.shifts_hold (λ x. width_at (list_at demands.globals called) x) (λ i. width_at (list_at demands.arguments called) i) callee.globals callee.arguments entry entry' is_entry is_entry' agree };
             callers = (
               record {
                 unit = refl;
+                into = sym both.1;
                 goes_on = λ a a' ask. record {
                   lt = lt;
-                  beside = subst (λ i. S (resumed into a next) (resumed i a' next')) (sym both.1) (both.3 a a' (subst (λ n. IsCallAnswer n a) (sym alike) ask.is) (subst (λ n. IsCallAnswer n a') (sym alike) ask.is') (serve called entry into next there a a' ask));
+                  beside = both.3 a a' (subst (λ n. IsCallAnswer n a) (sym alike) ask.is) (subst (λ n. IsCallAnswer n a') (sym alike) ask.is') (serve called entry into next there a a' ask);
                 };
               },
               over,
             );
           };
-          moves = inl (omega arith);
-          moves' = inl (omega arith);
         }
       where
         serve : (called : ℕ) (entry : CallEntry) (into : Option ℕ) (next : Frame) → CallsHere called entry into next → (a a' : Answer) → Answered called a a' → AnswersServe graph.shared into (side.are.wanted next.place) a a'
@@ -239,47 +218,11 @@ module _ (graphs middles : List GraphShape) (program : IsGraphProgram graphs) (d
               agree_lower (side.are.wanted next.place x) (width_at (list_at demands.backs called) x) (slice_index_or a.globals x (pos 0)) (slice_index_or a'.globals x (pos 0))
               (subst (λ p. side.are.wanted p x ≤ width_at (list_at demands.backs called) x) (sym there.next_is) enough) (ask.on_globals x (subst (λ n. x < n) alike low));
         }
-    steps_meet (Returns answer) (Returns answer') is is' both calls =
+    steps_meet (Returns answer) (Returns answer') both calls =
         let agree : Answered u answer answer' = subst (λ n. AnswersAgree n (λ x. width_at (list_at demands.backs u) x) (width_at (list_at demands.backs u) n) answer answer') alike both in
-        record {
-          steps = 1;
-          steps' = 1;
-          to = returned answer ps;
-          to' = returned answer' qs;
-          prints = [];
-          counted = 0;
-          counted' = 0;
-          frames = 0;
-          frames' = 0;
-          leads = leads_step codes u f ps (Returns answer) is;
-          leads' = leads_step codes' u g qs (Returns answer') is';
-          cheaper = le_refl 0;
-          shallower = le_refl 0;
-          measure = 0;
-          abreast = answered answer answer' agree ps qs over;
-          moves = inl (omega arith);
-          moves' = inl (omega arith);
-        }
-    steps_meet (Traps kind n) (Traps kind' m) is is' both calls = record {
-      steps = 1;
-      steps' = 1;
-      to = Stopped kind;
-      to' = Stopped kind;
-      prints = [];
-      counted = n;
-      counted' = m;
-      frames = 0;
-      frames' = 0;
-      leads = leads_step codes u f ps (Traps kind n) is;
-      leads' = leads_step codes' u g qs (Traps kind m) (is' ∙ ap (λ a. Traps a m) (sym both.0));
-      cheaper = omega (arith, both.1);
-      shallower = le_refl 0;
-      measure = 0;
-      abreast = refl;
-      moves = inl (omega arith);
-      moves' = inl (omega arith);
-    }
-    steps_meet _ _ is is' both calls = absurd both
+        record { prints = refl; cheaper = le_refl 0; as_deep = refl; abreast = answered answer answer' agree ps qs over }
+    steps_meet (Traps kind n) (Traps kind' m) both calls = record { prints = refl; cheaper = both.1; as_deep = refl; abreast = both.0 }
+    steps_meet _ _ both calls = absurd both
 
     -- the call that the first side makes stands at its place
     call_here : f.place < length graph.nodes → (o : Option Node) → slice_get graph.nodes f.place ≡ o → (called : ℕ) (entry : CallEntry) (into : Option ℕ) (next : Frame) → node_transition graph.shared graph.received o f ≡ Calls called entry into next → CallsHere called entry into next
@@ -305,18 +248,59 @@ module _ (graphs middles : List GraphShape) (program : IsGraphProgram graphs) (d
     call_here there (Some (Test test taken other)) here called entry into next e = cc
     call_here there (Some (Return a)) here called entry into next e = cc
 
-    meet : Beside (graph_numbered graphs u).nodes (graph_numbered graphs u).received side.are.shifts side.are.wanted f g → MeetsAgain Related codes codes' z (record { unit = u; frame = f; callers = ps }) (record { unit = u; frame = g; callers = qs })
-    meet beside =
+    -- one step from frames that stand beside one another
+    pub one_step : Beside (graph_numbered graphs u).nodes (graph_numbered graphs u).received side.are.shifts side.are.wanted f g → StepsMeet ps qs u (codes u f) (codes' u g)
+    one_step beside =
         let middle = graph_numbered middles u in
         let narrowed : codes' u g ≡ graph_code graph.shared graph.received middle.nodes g = ap (λ n. graph_code n middle.received middle.nodes g) side.shared ∙ ap (λ r. graph_code graph.shared r middle.nodes g) side.received in
-        steps_meet (graph_code graph.shared graph.received graph.nodes f) (graph_code graph.shared graph.received middle.nodes g) refl narrowed (narrowed_steps (asked_at demands graph.shared u) graph (program.are u lt) middle.nodes side.are f g beside)
-        (λ called entry into next e. call_here beside.there (slice_get graph.nodes f.place) refl called entry into next e)
+        subst (StepsMeet ps qs u (codes u f)) (sym narrowed)
+        (steps_meet (graph_code graph.shared graph.received graph.nodes f) (graph_code graph.shared graph.received middle.nodes g) (narrowed_steps (asked_at demands graph.shared u) graph (program.are u lt) middle.nodes side.are f g beside)
+        (λ called entry into next e. call_here beside.there (slice_get graph.nodes f.place) refl called entry into next e))
+
+  -- from stacks that are related
+  pub related_step : (z : ℕ) (from from' : Stack) → Related z from from' → StepsMeet from.callers from'.callers from.unit (codes from.unit from.frame) (codes' from.unit from'.frame)
+  related_step z from from' r = one_step from.unit r.frames.lt from.frame from'.frame from.callers from'.callers r.callers r.frames.beside
 
   -- related stacks meet again
   meets : (z : ℕ) (from from' : Stack) → Related z from from' → MeetsAgain Related codes codes' z from from'
   meets z from from' r =
+      let t = codes from.unit from.frame in
+      let t' = codes' from.unit from'.frame in
+      let one = related_step z from from' r in
       let same : record { unit = from.unit; frame = from'.frame; callers = from'.callers } ≡ from' = ap (λ v. record { unit = v; frame = from'.frame; callers = from'.callers }) (sym r.unit) in
-      subst (MeetsAgain Related codes codes' z from) same (meet z from.unit r.frames.lt from.frame from'.frame from.callers from'.callers r.callers r.frames.beside)
+      subst (MeetsAgain Related codes codes' z from) same (record {
+        steps = 1;
+        steps' = 1;
+        to = control_after from.unit from.callers t;
+        to' = control_after from.unit from'.callers t';
+        prints = printed_by t;
+        counted = counted_by t;
+        counted' = counted_by t';
+        frames = frames_by from.callers t;
+        frames' = frames_by from'.callers t';
+        leads = leads_step codes from.unit from.frame from.callers t refl;
+        leads' = subst (λ l. StepsLead codes' 1 (Running from.unit from'.frame from'.callers) (control_after from.unit from'.callers t') l (counted_by t') (frames_by from'.callers t')) one.prints (leads_step codes' from.unit from'.frame from'.callers t' refl);
+        cheaper = one.cheaper;
+        shallower = omega (arith, one.as_deep);
+        measure = 0;
+        abreast = one.abreast;
+        moves = inl (omega arith);
+        moves' = inl (omega arith);
+      })
+
+  -- the first frames are related
+  pub starts_related : (entry : CallEntry) → IsEntry (graph_machines graphs 0) entry → Related 0 (first_stack entry) (first_stack entry)
+  starts_related entry is =
+      let first = sides 0 program.some in
+      record {
+        unit = refl;
+        frames = record {
+          lt = program.some;
+          beside = entered_beside (graph_numbered graphs 0) (program.are 0 program.some) first.are.shifts first.are.wanted first.are.shifts_hold (λ x. width_at (list_at demands.globals 0) x) (λ i. width_at (list_at demands.arguments 0) i) first.globals first.arguments entry entry is is
+              (record { long = refl; numbers = is.numbers; numbers' = is.numbers; globals_are = is.globals; globals_are' = is.globals; on_globals = λ x low. refl; on_arguments = λ i. refl });
+        };
+        callers = whole;
+      }
 
   -- the program of the narrowed graphs is the same, evaluates no more operators and is never deeper
   pub narrowed_keep : MachinesKeep (graph_machines graphs) (graph_machines middles)
@@ -325,17 +309,6 @@ module _ (graphs middles : List GraphShape) (program : IsGraphProgram graphs) (d
       stacks_keep (graph_machines graphs) (graph_machines middles) Related (record {
         receives = ap (λ (l : List ℕ). length l) (sym first.received);
         shared = sym first.shared;
-        starts = λ entry is. (
-          0,
-          record {
-            unit = refl;
-            frames = record {
-              lt = program.some;
-              beside = entered_beside (graph_numbered graphs 0) (program.are 0 program.some) first.are.shifts first.are.wanted first.are.shifts_hold (λ x. width_at (list_at demands.globals 0) x) (λ i. width_at (list_at demands.arguments 0) i) first.globals first.arguments entry entry is is
-                  (record { long = refl; numbers = is.numbers; numbers' = is.numbers; globals_are = is.globals; globals_are' = is.globals; on_globals = λ x low. refl; on_arguments = λ i. refl });
-            };
-            callers = whole;
-          },
-        );
+        starts = λ entry is. (0, starts_related entry is);
         meets = meets;
       })

@@ -5,6 +5,7 @@ use Rattle.node_list.specs.Lists.{list_at}
 use Rattle.flow_graph.specs.declared.nodes.Node.TheVariants.{Call}
 use Rattle.flow_graph.specs.Graphs.{GraphShape}
 use Rattle.program_pass.specs.GraphPrograms.{shared_in}
+use Rattle.wanted_bits.specs.declared.around.Around.{Around}
 use Rattle.wanted_bits.specs.declared.table.Shift.{Shift}
 use Rattle.wanted_bits.specs.Asking.{width_at}
 use Rattle.wanted_bits.specs.Asks.{back_list}
@@ -29,6 +30,12 @@ asked_at demands shared u = record {
   left = λ x. width_at (list_at demands.backs u) x;
   result = width_at (list_at demands.backs u) shared;
 }
+
+-- what is asked for around a unit, as the demands have it
+pub record IsAround (demands : Demands) (u : ℕ) (around : Around) : Type 0 where
+  pub globals : around.globals.now ≡ demands.globals
+  pub arguments : around.arguments.now ≡ demands.arguments
+  pub back : around.back.now ≡ list_at demands.backs u
 
 -- a list for each graph, of so many numbers, each of which is at most 64
 pub record AreNumberRows (graphs : List GraphShape) (count : GraphShape → ℕ) (rows : List (List ℕ))

@@ -5,5 +5,9 @@ pub mod Stale
 pub mod DemandStacks
 pub mod DemandLaws
 pub mod WantedPrograms
+pub mod NarrowedUnits
+pub mod ProgramRuns
+pub mod ProgramRemoves
+pub mod UnitPaths
 pub mod WantedProgramLaws
 pub mod Tables

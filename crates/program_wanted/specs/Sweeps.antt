@@ -7,7 +7,6 @@ use Rattle.flow_graph.specs.declared.nodes.Node.{Node}
 use Rattle.flow_graph.specs.declared.nodes.Node.TheVariants.{Call}
 use Rattle.flow_graph.specs.Graphs.{GraphShape}
 use Rattle.program_pass.specs.GraphPrograms.{shared_in}
-use Rattle.wanted_bits.specs.declared.around.Around.{Around}
 use Rattle.wanted_bits.specs.Asking.{width_at}
 use Rattle.wanted_bits.specs.Asks.{AreAsks}
 use Rattle.wanted_bits.specs.BitsOrder.{HasFew, joined_bits}
@@ -156,9 +155,3 @@ pub record AreFirstBacks (graphs : List GraphShape) (rows : List (List ℕ)) : T
   pub are : AreZeros graphs (λ graph. suc graph.shared) zeros
   pub is : rows ≡ slice_set zeros 0 (slice_set (list_at zeros 0) (shared_in graphs)
       (max (bits_at (list_at zeros 0) (shared_in graphs)) 64))
-
--- what is asked for around a unit, as the demands have it
-pub record IsAround (demands : Demands) (u : ℕ) (around : Around) : Type 0 where
-  pub globals : around.globals.now ≡ demands.globals
-  pub arguments : around.arguments.now ≡ demands.arguments
-  pub back : around.back.now ≡ list_at demands.backs u

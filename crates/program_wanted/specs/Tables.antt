@@ -1,4 +1,4 @@
--- The demands that tables have. Cited by contracts of private functions.
+-- The demands that tables have. Cited by contracts.
 use Rattle.program_wanted.specs.declared.demands.Tables.{Tables}
 use Rattle.program_wanted.specs.Demands.{Demands}
 

@@ -1,6 +1,6 @@
 -- Laws: the graphs of the units of a program fit together; what is made of the units by the least demands keeps the
 -- program; and a program has one such program. For proofs only.
-use Rattle.std.proofs.Common.{◌≡◌, ℕ, ◌+◌, ◌<◌, ◌≤◌, inl, inr, List, [], ◌∷◌, ◌++◌, length, slice_get, Some, refl, sym, ap, ◌∙◌, subst, arith}
+use Rattle.std.proofs.Common.{◌≡◌, ℕ, suc, ◌<◌, ◌≤◌, inl, inr, List, [], ◌∷◌, ◌++◌, length, slice_get, Some, refl, sym, ap, ◌∙◌, subst, arith}
 use Rattle.std.proofs.lemmas.Option.{slice_get_within}
 use Rattle.mir_base.specs.LockstepLaws.{cheaper_refl}
 use Rattle.mir_base.specs.UnitLaws.{same_refl}
@@ -17,7 +17,7 @@ use Rattle.jump_clean.specs.CleanLaws.{clean_is_one}
 use Rattle.program_pass.specs.GraphPrograms.{IsGraphProgram, graph_numbered, graph_or_empty, shared_in}
 use Rattle.program_pass.specs.PassOneLaws.{places_same, program_only}
 use Rattle.program_pass.specs.PassPrograms.{AllPassed, CleanedLaid, KeepsRuns, LoweredClean, PassRelation}
-use Rattle.program_pass.specs.PassProgramLaws.{at, between_at, graph_program, graphs, graphs_count, middles, passes_keep}
+use Rattle.program_pass.specs.PassProgramLaws.{MadeOf, at, between_at, graph_program, graphs, graphs_count, middles, middles_of, passes_keep}
 use Rattle.program_pass.specs.RefitLaws.{called_fits}
 use Rattle.node_list.specs.Lists.{list_at}
 use Rattle.wanted_bits.specs.declared.around.Around.{Around}
@@ -25,10 +25,11 @@ use Rattle.wanted_bits.specs.Asking.{asked_by, width_at}
 use Rattle.wanted_bits.specs.Made.{IsMadeNarrowed}
 use Rattle.wanted_bits.specs.Narrowed.{IsNarrowedBy}
 use Rattle.wanted_bits.specs.NarrowedLaws.{narrowed_is_one}
-use Rattle.program_wanted.specs.Demands.{AreLeastDemands, AreServed, Demands, asked_at}
+use Rattle.program_wanted.specs.Demands.{AreLeastDemands, AreServed, Demands, IsAround, asked_at}
 use Rattle.program_wanted.specs.DemandLaws.{demands_one, enough, made_sides}
-use Rattle.program_wanted.specs.DemandStacks.{Sides, narrowed_keep}
-use Rattle.program_wanted.specs.Sweeps.{FitTogether, IsAround}
+use Rattle.program_wanted.specs.DemandStacks.{LeastSides, Sides, narrowed_keep}
+use Rattle.program_wanted.specs.NarrowedUnits.{AreNarrowedUnits, IsLaidFrom}
+use Rattle.program_wanted.specs.Sweeps.{FitTogether}
 use Rattle.program_wanted.specs.WantedPrograms.{AreFronts, AreGraphsOf, IsWantedProgram, NarrowedTo, NarrowsTo, WantedUnit, WantedUnits}
 
 -- ---- the graphs
@@ -103,7 +104,7 @@ wanted_unit demands units gs number graph narrowed target fronts at made back so
         name = is.name_is;
         globals = same_globals graph narrowed is.shared_is is.vars_are;
         middle = narrowed;
-        between = record { found = made.found; shared = is.shared_is; received = is.received_are };
+        between = made;
         shared = is.shared_is;
         received = is.received_are;
         same = same_refl (machine_of narrowed);
@@ -117,17 +118,17 @@ wanted_unit demands units gs number graph narrowed target fronts at made back so
 -- ---- what is made keeps the program
 
 module _ (demands : Demands) (gs : List GraphShape) (source target : ProgramShape) (program : IsProgram source.globals source.units) (globals : target.globals ≡ source.globals) (all : WantedUnits demands source.units target.units) (fronts : AreFronts source.units gs) (least : AreLeastDemands gs demands) where
-  abbrev own : List GraphShape
+  abbrev pub own : List GraphShape
   own = graphs (NarrowedTo demands) (NarrowsTo demands) source target program globals all
 
-  abbrev made : List GraphShape
+  abbrev pub made : List GraphShape
   made = middles (NarrowedTo demands) (NarrowsTo demands) source target program globals all
 
   own_long : length own ≡ length source.units
   own_long = graphs_count (NarrowedTo demands) (NarrowsTo demands) source target program globals all
 
   -- the graphs are those of the demands
-  same : own ≡ gs
+  pub same : own ≡ gs
   same = places_same own gs (own_long ∙ sym fronts.long) (λ u x y at_x at_y.
       let lt : u < length source.units = omega (arith, slice_get_within own u x at_x, own_long) in
       let a = at (NarrowedTo demands) (NarrowsTo demands) source target program globals all u lt in
@@ -141,22 +142,76 @@ module _ (demands : Demands) (gs : List GraphShape) (source target : ProgramShap
   served : AreServed own demands
   served = subst (λ l. AreServed l demands) (sym same) least.served
 
-  whole : 64 ≤ width_at (list_at demands.backs 0) (shared_in own)
+  pub whole : 64 ≤ width_at (list_at demands.backs 0) (shared_in own)
   whole = enough (list_at demands.backs 0) (shared_in own) 64 (omega arith) served.whole
 
-  is_program : IsGraphProgram own
+  pub is_program : IsGraphProgram own
   is_program = graph_program (NarrowedTo demands) (NarrowsTo demands) source target program globals all
 
-  sides : (u : ℕ) → u < length own → Sides demands u (graph_numbered own u) (graph_numbered made u)
-  sides u lt =
+  pub least_sides : (u : ℕ) → u < length own → LeastSides demands u (graph_numbered own u) (graph_numbered made u)
+  least_sides u lt =
       let between = between_at (NarrowedTo demands) (NarrowsTo demands) source target program globals all u lt in
       let graph = graph_numbered own u in
       let here : slice_get own u ≡ Some graph = (let s = some_at own u lt in s.1 ∙ ap Some (sym (ap (graph_or_empty (shared_in own)) s.1))) in
-      made_sides demands u graph (graph_numbered made u) (is_program.are u lt) (is_program.shares u lt) between.found between.shared between.received (served.units u graph here)
+      made_sides demands u graph (graph_numbered made u) (is_program.are u lt) (is_program.shares u lt) between.found between.narrowed_is.shared_is between.narrowed_is.received_are (served.units u graph here)
+
+  sides : (u : ℕ) → u < length own → Sides demands u (graph_numbered own u) (graph_numbered made u)
+  sides u lt = (least_sides u lt).sides
 
   -- the target is the same, evaluates no more operators and is never deeper
   pub wanted_keeps : KeepsRuns source target
   wanted_keeps = passes_keep (NarrowedTo demands) (NarrowsTo demands) source target program globals all (narrowed_keep own made is_program demands whole sides)
+
+  -- ---- the graphs and what they are narrowed to
+
+  -- as many
+  pub made_long : length made ≡ length own
+  made_long = middles_long source.units target.units all.long (λ v. v) all.units ∙ sym own_long
+    where
+      middles_long : (sources targets : List UnitShape) → length targets ≡ length sources → (number : ℕ → ℕ) (each : MadeOf (NarrowedTo demands) (NarrowsTo demands) number sources targets) → length (middles_of (NarrowedTo demands) (NarrowsTo demands) number sources targets each) ≡ length sources
+      middles_long [] targets long number each = refl
+      middles_long (s ∷ sources) [] long number each = absurd (omega (arith, long))
+      middles_long (s ∷ sources) (t ∷ targets) long number each = ap suc (middles_long sources targets (omega (arith, long)) (λ v. number (suc v)) (λ v. each (suc v)))
+
+  -- there is a unit for each graph
+  in_source : (u : ℕ) (graph : GraphShape) → slice_get own u ≡ Some graph → u < length source.units
+  in_source u graph at = omega (arith, slice_get_within own u graph at, own_long)
+
+  -- each is narrowed
+  pub made_narrowed : (u : ℕ) (graph narrowed : GraphShape) → slice_get own u ≡ Some graph → slice_get made u ≡ Some narrowed → IsMadeNarrowed (asked_at demands graph.shared u) graph narrowed
+  made_narrowed u graph narrowed at_u at_made =
+      let a = at (NarrowedTo demands) (NarrowsTo demands) source target program globals all u (in_source u graph at_u) in
+      let both : Some a.made.cleaned ≡ Some graph = sym a.graph_at ∙ at_u in
+      let both' : Some a.made.keeps.middle ≡ Some narrowed = sym a.middle_at ∙ at_made in
+      let one : a.made.cleaned ≡ graph = cc in
+      let one' : a.made.keeps.middle ≡ narrowed = cc in
+      subst (λ g. IsMadeNarrowed (asked_at demands g.shared u) g narrowed) one (subst (IsMadeNarrowed (asked_at demands a.made.cleaned.shared u) a.made.cleaned) one' a.made.keeps.between)
+
+  -- and laid out it is the unit
+  pub made_laid : (u : ℕ) (narrowed : GraphShape) (unit : UnitShape) → slice_get made u ≡ Some narrowed → slice_get target.units u ≡ Some unit → IsLaidFrom narrowed unit
+  made_laid u narrowed unit at_made at_unit =
+      let a = at (NarrowedTo demands) (NarrowsTo demands) source target program globals all u (omega (arith, slice_get_within made u narrowed at_made, made_long, own_long)) in
+      let both : Some a.made.keeps.middle ≡ Some narrowed = sym a.middle_at ∙ at_made in
+      let both' : Some a.target ≡ Some unit = sym a.target_at ∙ at_unit in
+      let one : a.made.keeps.middle ≡ narrowed = cc in
+      let one' : a.target ≡ unit = cc in
+      let same : a.made.passed ≡ narrowed = narrowed_is_one (asked_at demands a.made.cleaned.shared u) a.made.cleaned a.made.front.can a.made.passed a.made.keeps.middle a.made.is_passed a.made.keeps.between.narrowed_is ∙ one in
+      let back = a.made.back in
+      subst (λ g. IsLaidFrom g unit) same (subst (IsLaidFrom a.made.passed) one' (back.swept, (back.is_swept, back.is_laid)))
+
+  -- the demands are the least that serve them
+  pub own_least : AreLeastDemands own demands
+  own_least = subst (λ l. AreLeastDemands l demands) (sym same) least
+
+  abbrev pub are_units : AreNarrowedUnits source target own made
+  are_units = record {
+    are_graphs = subst (AreGraphsOf source.units) (sym same) (graphs_of source.units gs fronts);
+    demands = demands;
+    least = own_least;
+    long = made_long;
+    are_narrowed = λ u graph narrowed at_u at_made. (made_narrowed u graph narrowed at_u at_made).narrowed_is;
+    are_laid = made_laid;
+  }
 
 -- ---- one program
 

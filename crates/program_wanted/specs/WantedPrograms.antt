@@ -5,7 +5,7 @@ use Rattle.flow_graph.specs.Graphs.{GraphShape}
 use Rattle.flow_graph.specs.Lowered.{IsLowered}
 use Rattle.jump_clean.specs.Cleaned.{IsClean}
 use Rattle.program_pass.specs.PassPrograms.{AllPassed, IsPassedProgram, LoweredClean, PassRelation, PassedAt}
-use Rattle.wanted_bits.specs.Found.{AreFoundNodes}
+use Rattle.wanted_bits.specs.Made.{IsMadeNarrowed}
 use Rattle.wanted_bits.specs.Narrowed.{IsNarrowedBy}
 use Rattle.program_wanted.specs.Demands.{AreLeastDemands, Demands, asked_at}
 
@@ -18,6 +18,12 @@ pub record AreGraphsOf (units : List UnitShape) (graphs : List GraphShape) : Typ
   pub long : length graphs ≡ length units
   pub are : (u : ℕ) (unit : UnitShape) (graph : GraphShape) → slice_get units u ≡ Some unit
       → slice_get graphs u ≡ Some graph → IsGraphOf unit graph
+
+-- the least demands that serve all units of a program
+pub record AreProgramDemands (program : ProgramShape) (demands : Demands) : Type 0 where
+  pub graphs : List GraphShape
+  pub are_graphs : AreGraphsOf program.units graphs
+  pub least : AreLeastDemands graphs demands
 
 -- each graph is narrowed to what is asked for around its unit
 abbrev pub NarrowedTo : Demands → PassRelation
@@ -39,11 +45,9 @@ pub record AreFronts (units : List UnitShape) (graphs : List GraphShape) : Type 
   pub are : (u : ℕ) (unit : UnitShape) (graph : GraphShape) → slice_get units u ≡ Some unit
       → slice_get graphs u ≡ Some graph → (lowered : GraphShape) × LoweredClean unit lowered graph
 
--- the graph in between: its nodes are what those of the graph become
-pub record NarrowsTo (demands : Demands) (u : ℕ) (graph middle : GraphShape) : Type 0 where
-  pub found : AreFoundNodes (asked_at demands graph.shared u) graph middle.nodes
-  pub shared : middle.shared ≡ graph.shared
-  pub received : middle.received ≡ graph.received
+-- the graph in between is narrowed too
+abbrev pub NarrowsTo : Demands → PassRelation
+NarrowsTo demands u graph middle = IsMadeNarrowed (asked_at demands graph.shared u) graph middle
 
 -- what was made of the unit of this number
 abbrev pub WantedUnit : Demands → List UnitShape → ℕ → UnitShape → Type 0

@@ -1,9 +1,9 @@
 // The least numbers of bits that the units of a program ask of one another.
 ghost use Rattle.std.specs.Prelude.{◌≡◌, ◌<◌, length, IfOk, OnOk};
 ghost use Rattle.program_wanted.specs.Calling.{AreUnitCallers};
-ghost use Rattle.program_wanted.specs.Demands.{AreLeastDemands};
+ghost use Rattle.program_wanted.specs.Demands.{AreLeastDemands, IsAround};
 ghost use Rattle.program_wanted.specs.Stale.{FreshAreServed};
-ghost use Rattle.program_wanted.specs.Sweeps.{FitTogether, IsAround, IsProgress, Sweeps};
+ghost use Rattle.program_wanted.specs.Sweeps.{FitTogether, IsProgress, Sweeps};
 ghost use Rattle.program_wanted.specs.Tables.{demands_of};
 
 use crate::calling::{Callers, callers_of};
@@ -14,9 +14,9 @@ use mir_base::Memory;
 use std::alloc::Global;
 use wanted_bits::{Around, Widths};
 
-/// What is asked for around each unit.
+/// What is asked for around each unit of a program. Contracts see it as `demands_of`.
 #[derive(Drop)]
-pub(crate) struct Tables {
+pub struct Tables {
     /// For each unit, how many bits are wanted of each global where it is entered.
     pub(crate) globals: Vec<Widths>,
     /// And of each of its arguments.
@@ -25,9 +25,9 @@ pub(crate) struct Tables {
     pub(crate) backs: Vec<Widths>,
 }
 
-/// What is asked for around a unit.
-pub(crate) fn around<'a>(tables: &'a Tables, unit: usize) -> Around<'a>
-    requires { unit < length tables.now.backs.items }
+/// What is asked for around a unit, as the passes within a unit take it. It does not allocate.
+pub fn around<'a>(tables: &'a Tables, unit: usize) -> Around<'a>
+    requires { unit < length (demands_of tables.now).backs }
     ensures { IsAround (demands_of tables.now) unit result }
 {
     Around {

@@ -4,7 +4,8 @@
 //!
 //! The theorem that this crate carries is the contract of `wanted_program`: the answer is the exact program, made by the
 //! least numbers over all units, it is the same as the program that goes in, evaluates no more operators, and never has
-//! more frames.
+//! more frames; its frames agree with those of that program in the bits that are wanted, and no removal over all units
+//! that keeps what is wanted takes an assignment that stays.
 #![tactic(auto)]
 
 mod calling;
@@ -15,4 +16,5 @@ mod raising;
 mod serving;
 mod starting;
 
-pub use programs::wanted_program;
+pub use demands::{Tables, around};
+pub use programs::{program_demands, wanted_program};

@@ -3,7 +3,10 @@ ghost use Rattle.std.specs.Prelude.{◌<◌, ◌≡◌, IfOk, length};
 ghost use Rattle.mir_base.specs.Shapes.{IsProgram};
 ghost use Rattle.program_pass.specs.PassPrograms.{IsOnly, KeepsRuns};
 ghost use Rattle.program_wanted.specs.Demands.{AreLeastDemands};
-ghost use Rattle.program_wanted.specs.WantedPrograms.{AreFronts, IsWantedProgram, WantedUnit, WantedUnits};
+ghost use Rattle.program_wanted.specs.ProgramRemoves.{ProgramRemovesMost};
+ghost use Rattle.program_wanted.specs.ProgramRuns.{ProgramRunsAgree};
+ghost use Rattle.program_wanted.specs.UnitPaths.{ProgramPathsKept};
+ghost use Rattle.program_wanted.specs.WantedPrograms.{AreFronts, AreProgramDemands, IsWantedProgram, WantedUnit, WantedUnits};
 ghost use Rattle.program_wanted.specs.Tables.{demands_of};
 
 use crate::demands::{Tables, around, least_demands};
@@ -24,6 +27,16 @@ pub fn wanted_program(alloc: Global, program: &Program) -> Result<Program, Memor
     ensures wanted { IfOk result (IsWantedProgram program.now) }
     ensures only { IfOk result (IsOnly (IsWantedProgram program.now)) }
     ensures keeps { IfOk result (KeepsRuns program.now) }
+
+    // no removal of assignments over all units that keeps what is wanted, whatever is asked for around them and taken
+    // for wanted, takes one that stays here
+    ensures most { IfOk result (ProgramRemovesMost program.now) }
+
+    // along each run, in each frame, each variable agrees with what it was in the bits that are wanted
+    ensures agrees { IfOk result (ProgramRunsAgree program.now) }
+
+    // on no path through a unit are more operators evaluated
+    ensures paths { IfOk result (ProgramPathsKept program.now) }
 {
     let graphs = graphs_of(alloc, program)?;
     program.fits_together();
@@ -31,6 +44,18 @@ pub fn wanted_program(alloc: Global, program: &Program) -> Result<Program, Memor
     let units = narrowed_units(alloc, program, &graphs, &tables)?;
     let target = program.with_units(units)?;
     Ok(target)
+}
+
+/// The least demands of the units of a program, as `wanted_program` has them: for each unit how many bits are asked for
+/// of each global and each argument where it is entered, and of each global and of the result where it returns. It
+/// fails only with `Memory`.
+pub fn program_demands(alloc: Global, program: &Program) -> Result<Tables, Memory>
+    ensures { IfOk result (λ tables. AreProgramDemands program.now (demands_of tables)) }
+{
+    let graphs = graphs_of(alloc, program)?;
+    program.fits_together();
+    let tables = least_demands(alloc, &graphs)?;
+    Ok(tables)
 }
 
 /// The units, narrowed to what is asked for around them.

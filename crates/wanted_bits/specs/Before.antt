@@ -6,7 +6,7 @@ use Rattle.flow_graph.specs.Graphs.{GraphShape}
 use Rattle.wanted_bits.specs.declared.table.Shift.{Shift}
 use Rattle.wanted_bits.specs.MostRemoved.{TellShifts}
 use Rattle.wanted_bits.specs.Walking.{HaveBacks, back_in, bits_at, bits_past}
-use Rattle.wanted_bits.specs.Wanted.{AreLeastWanted, AreLeastWantedBy, Asked}
+use Rattle.wanted_bits.specs.Wanted.{AreLeastWantedBy, Asked, all_asked}
 
 -- a list for each node has these numbers of its variables
 pub record HaveNumbers (graph : GraphShape) (wanted : ℕ → ℕ → ℕ) (rows : List (List ℕ))
@@ -15,13 +15,18 @@ pub record HaveNumbers (graph : GraphShape) (wanted : ℕ → ℕ → ℕ) (rows
   pub numbers : (n x : ℕ) → n < length graph.nodes → x < length graph.vars
       → bits_at (list_at rows n) x ≡ wanted n x
 
--- the least numbers before each node, by the shifts that hold
-pub record AreWantedBefore (graph : GraphShape) (rows : List (List ℕ)) : Type 0 where
+-- the least numbers before each node, by the shifts that hold, where so many bits are asked for around the unit
+pub record AreWantedBeforeBy (asked : Asked) (graph : GraphShape) (rows : List (List ℕ))
+    : Type 0 where
   pub shifts : ℕ → ℕ → Option Shift
   pub tell : TellShifts graph shifts
   pub wanted : ℕ → ℕ → ℕ
-  pub least : AreLeastWanted graph shifts wanted
+  pub least : AreLeastWantedBy asked graph shifts wanted
   pub are : HaveNumbers graph wanted rows
+
+-- where all bits are asked for
+abbrev pub AreWantedBefore : GraphShape → List (List ℕ) → Type 0
+AreWantedBefore = AreWantedBeforeBy all_asked
 
 -- where each right side shifts back what this list has for its node
 abbrev pub AreBefore : Asked → GraphShape → List (Option Shift) → List (List ℕ) → Type 0

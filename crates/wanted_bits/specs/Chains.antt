@@ -29,9 +29,14 @@ pub data IsCarried (asked : Asked) (graph : GraphShape) (shifts : ℕ → ℕ �
       → IsEdge graph.nodes n slot s → assigns graph x node ≡ false
       → IsCarried asked graph shifts s x k → IsCarried asked graph shifts n x k
 
--- so many bits are wanted of each variable before each node as a chain shows, by the shifts that hold
-pub record AreCarried (graph : GraphShape) (rows : List (List ℕ)) : Type 0 where
+-- so many bits are wanted of each variable before each node as a chain shows, by the shifts that hold, where so many
+-- are asked for around the unit
+pub record AreCarriedBy (asked : Asked) (graph : GraphShape) (rows : List (List ℕ)) : Type 0 where
   pub shifts : ℕ → ℕ → Option Shift
   pub tell : TellShifts graph shifts
   pub carried : (n x k : ℕ) → n < length graph.nodes → x < length graph.vars
-      → (k ≤ bits_at (list_at rows n) x) ↔ IsCarried all_asked graph shifts n x k
+      → (k ≤ bits_at (list_at rows n) x) ↔ IsCarried asked graph shifts n x k
+
+-- where all bits are asked for
+abbrev pub AreCarried : GraphShape → List (List ℕ) → Type 0
+AreCarried = AreCarriedBy all_asked

@@ -139,7 +139,7 @@ module _ (asked : Asked) (graph : GraphShape) (can : CanMake graph.vars graph.re
       (let none = none_past (shifted_back (shifts n) gone.1) gone.1 x gone.4 in
       omega (arith, ap (λ k. wanted_rhs (shifts n) gone.1 k x) gone.5, none))
 
-  taken_wanted : AreWantedBy asked graph shifts taken
+  pub taken_wanted : AreWantedBy asked graph shifts taken
   taken_wanted = record { most = keeps.most; here = λ n x node here. taken_here n x node here (removed n) refl; behind = keeps.behind }
 
   -- so each that is removed goes

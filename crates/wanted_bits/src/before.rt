@@ -1,12 +1,11 @@
 // How many bits are wanted before each node.
 ghost use Rattle.std.specs.Prelude.{◌≡◌, length, replicate, [], IfOk, OnOk};
 ghost use Rattle.flow_graph.specs.Blocks.{IsBlock};
-ghost use Rattle.wanted_bits.specs.Before.{AreBefore, AreWantedBefore, row_past};
+ghost use Rattle.wanted_bits.specs.Before.{AreBefore, AreWantedBefore, AreWantedBeforeBy, row_past};
 ghost use Rattle.wanted_bits.specs.BitsOrder.{HasFew};
-ghost use Rattle.wanted_bits.specs.Chains.{AreCarried};
+ghost use Rattle.wanted_bits.specs.Chains.{AreCarried, AreCarriedBy};
 ghost use Rattle.wanted_bits.specs.Found.{NotesFrom};
 ghost use Rattle.wanted_bits.specs.Walking.{AreGraphNodes, back_in};
-ghost use Rattle.wanted_bits.specs.Wanted.{all_asked};
 ghost use Rattle.wanted_bits.specs.WantedFlows.{AreCrossed, AreLeastBehind};
 ghost use Rattle.wanted_bits.specs.Asking.{asked_by};
 
@@ -29,32 +28,58 @@ pub fn wanted_before(alloc: Global, graph: &Graph) -> Result<Vec<Widths>, Memory
     // so many are wanted as chains show, which lead back from where bits are needed
     ensures carried { IfOk result (λ rows. AreCarried graph.now rows.items) }
 {
-    let _nodes = graph.nodes();
     let whole = Widths::zeros(alloc, 0)?;
-    let backs = backs(alloc, graph)?;
-    let rows = rows_before(alloc, graph, &whole, backs.as_slice())?;
+    let rows = whole_before(alloc, graph, &whole)?;
     Ok(rows)
 }
 
-/// The same, where each right side shifts back what `backs` has for its node, and `whole` has no numbers.
-fn rows_before(
-    alloc: Global,
-    graph: &Graph,
-    whole: &Widths,
-    backs: &[Option<Shift>],
-) -> Result<Vec<Widths>, Memory>
-    requires whole { whole.now ≡ [] }
-    requires backs { length backs.now ≡ length graph.now.nodes }
-    ensures { IfOk result (λ rows. AreBefore all_asked graph.now backs.now rows.items) }
+/// The same, where this has no numbers.
+fn whole_before(alloc: Global, graph: &Graph, whole: &Widths) -> Result<Vec<Widths>, Memory>
+    requires { whole.now ≡ [] }
+    ensures wanted { IfOk result (λ rows. AreWantedBefore graph.now rows.items) }
+    ensures carried { IfOk result (λ rows. AreCarried graph.now rows.items) }
 {
     let around = Around {
         globals: &[],
         arguments: &[],
         back: whole,
     };
+    let rows = wanted_before_in(alloc, graph, &around)?;
+    Ok(rows)
+}
+
+/// The same of a unit, where so many bits are asked for around it, as `narrow_in` has them. It fails only with
+/// `Memory`.
+pub fn wanted_before_in(
+    alloc: Global,
+    graph: &Graph,
+    around: &Around<'_>,
+) -> Result<Vec<Widths>, Memory>
+    ensures wanted { IfOk result (λ rows.
+        AreWantedBeforeBy (asked_by graph.now.shared around.now) graph.now rows.items) }
+    ensures carried { IfOk result (λ rows.
+        AreCarriedBy (asked_by graph.now.shared around.now) graph.now rows.items) }
+{
+    let _nodes = graph.nodes();
+    let backs = backs(alloc, graph)?;
+    let rows = rows_before(alloc, graph, around, backs.as_slice())?;
+    Ok(rows)
+}
+
+/// The same, where each right side shifts back what `backs` has for its node.
+fn rows_before(
+    alloc: Global,
+    graph: &Graph,
+    around: &Around<'_>,
+    backs: &[Option<Shift>],
+) -> Result<Vec<Widths>, Memory>
+    requires { length backs.now ≡ length graph.now.nodes }
+    ensures { IfOk result (λ rows.
+        AreBefore (asked_by graph.now.shared around.now) graph.now backs.now rows.items) }
+{
     let crossed = crossings(alloc, graph)?;
-    let work = least(alloc, graph, &around, &crossed, backs)?;
-    let rows = all_rows(alloc, graph, &around, &crossed, backs, &work)?;
+    let work = least(alloc, graph, around, &crossed, backs)?;
+    let rows = all_rows(alloc, graph, around, &crossed, backs, &work)?;
     Ok(rows)
 }
 

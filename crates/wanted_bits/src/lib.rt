@@ -25,7 +25,7 @@ mod wanting;
 
 pub use around::{Around, Widths};
 pub use asks::asks_around;
-pub use before::wanted_before;
+pub use before::{wanted_before, wanted_before_in};
 pub use held::HeldShifts;
 pub use narrowing::{narrow, narrow_in};
 pub use table::{Shift, VarShift};

@@ -1,2 +1,3 @@
 pub mod WantedLines
 pub mod Narrowings
+pub mod Demanding

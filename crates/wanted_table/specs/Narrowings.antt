@@ -24,10 +24,10 @@ abbrev pub text_before : List (List ℕ) → PassSteps → List ℕ
 text_before names steps =
     text_begun names steps ++ codes "pass clean\n" ++ stage_text names (codes "clean") steps.cleaned
 
--- its last two graphs
-abbrev pub text_behind : List (List ℕ) → PassSteps → List ℕ
-text_behind names steps =
-    stage_text names (codes "wanted") steps.passed
+-- its last two graphs, where the first of them has this name
+abbrev pub text_behind : List (List ℕ) → List ℕ → PassSteps → List ℕ
+text_behind names label steps =
+    stage_text names label steps.passed
     ++ codes "pass clean\n" ++ stage_text names (codes "result") steps.swept
 
 -- the text is that of these graphs, with a line for each node of the cleaned one between them
@@ -35,7 +35,8 @@ pub record ShowsSteps (names : List (List ℕ)) (steps : PassSteps) (text : List
   pub lines : List ℕ
   pub are : AreWantedLines steps.cleaned lines
   pub text_is : text
-      ≡ text_before names steps ++ codes "pass wanted\n" ++ lines ++ text_behind names steps
+      ≡ text_before names steps ++ codes "pass wanted\n" ++ lines
+      ++ text_behind names (codes "wanted") steps
 
 -- the text is that of the unit of this number among these: of the graphs that the pass makes of it, and of what is
 -- wanted before the nodes of its cleaned graph

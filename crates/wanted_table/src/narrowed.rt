@@ -60,6 +60,6 @@ fn put_tables(
     put_before(text, units, steps)?;
     text.extend_from_slice(b"pass wanted\n")?;
     put_numbers(alloc, text, &steps.cleaned)?;
-    put_behind(text, units, steps)?;
+    put_behind(text, units, b"wanted", steps)?;
     Ok(())
 }

@@ -57,3 +57,12 @@ returns-in-Wanted g c =
       err = stream_of g.E.Sink.written g.E.Sink.faults c.args.err.now c.further_tables-in-Wanted.new.err;
       status = c.further_tables-in-Wanted.result;
     })) (sym c.in-Wanted.is) c.further_tables-in-Wanted.ensures
+
+pub returns-in-Demanded : goal.returns-in-Demanded
+returns-in-Demanded g c =
+    subst (λ (k : TableKind). TextPromises k (record {
+      source = stream_of g.S.Source.left g.S.Source.faults c.args.source.now c.further_tables-in-Demanded.new.source;
+      out = stream_of g.K.Sink.written g.K.Sink.faults c.args.out.now c.further_tables-in-Demanded.new.out;
+      err = stream_of g.E.Sink.written g.E.Sink.faults c.args.err.now c.further_tables-in-Demanded.new.err;
+      status = c.further_tables-in-Demanded.result;
+    })) (sym c.in-Demanded.is) c.further_tables-in-Demanded.ensures

@@ -3,9 +3,13 @@ use Rattle.mir_base.specs.Shapes.{ProgramShape}
 use Rattle.program_pass.specs.PassPrograms.{IsOnly, KeepsRuns}
 use Rattle.program_pass.specs.PassProgramLaws.{passed_program}
 use Rattle.program_pass.specs.UnitMakes.{all_passed}
+use Rattle.program_wanted.specs.ProgramRemoves.{ProgramRemovesMost}
+use Rattle.program_wanted.specs.ProgramRuns.{ProgramRunsAgree}
 use Rattle.program_wanted.specs.Tables.{demands_of}
+use Rattle.program_wanted.specs.UnitPaths.{ProgramPathsKept}
 use Rattle.program_wanted.specs.WantedPrograms.{IsWantedProgram, NarrowedTo, NarrowsTo}
 use Rattle.program_wanted.specs.WantedProgramLaws.{fit_together, graphs_of, wanted_keeps, wanted_only}
+use Rattle.program_wanted.proofs.UnitsKept.{wanted_agree, wanted_paths, wanted_removes}
 use Rattle.program_wanted.proofs.programs.wanted_program.Goals as goal
 use Rattle.program_wanted.proofs.programs.wanted_program.Goals.{In_ok-target}
 
@@ -44,3 +48,21 @@ returns-clause-only c =
     let to = target (goal.at.returns-clause-only c).In_ok-target in
     subst (IsOnly (IsWantedProgram c.args.program.now)) (sym c.in_ok-target.ensures)
     (λ other is. wanted_only demands c.in_ok-graphs.graphs.items c.args.program.now to other refl c.in_ok-units.ensures c.in_ok-graphs.ensures c.in_ok-tables.ensures is)
+
+pub returns-clause-most : goal.returns-clause-most
+returns-clause-most c =
+    let demands = demands_of c.in_ok-tables.tables in
+    let to = target (goal.at.returns-clause-most c).In_ok-target in
+    subst (ProgramRemovesMost c.args.program.now) (sym c.in_ok-target.ensures) (wanted_removes demands c.in_ok-graphs.graphs.items c.args.program.now to c.fits_together.ensures refl c.in_ok-units.ensures c.in_ok-graphs.ensures c.in_ok-tables.ensures)
+
+pub returns-clause-agrees : goal.returns-clause-agrees
+returns-clause-agrees c =
+    let demands = demands_of c.in_ok-tables.tables in
+    let to = target (goal.at.returns-clause-agrees c).In_ok-target in
+    subst (ProgramRunsAgree c.args.program.now) (sym c.in_ok-target.ensures) (wanted_agree demands c.in_ok-graphs.graphs.items c.args.program.now to c.fits_together.ensures refl c.in_ok-units.ensures c.in_ok-graphs.ensures c.in_ok-tables.ensures)
+
+pub returns-clause-paths : goal.returns-clause-paths
+returns-clause-paths c =
+    let demands = demands_of c.in_ok-tables.tables in
+    let to = target (goal.at.returns-clause-paths c).In_ok-target in
+    subst (ProgramPathsKept c.args.program.now) (sym c.in_ok-target.ensures) (wanted_paths demands c.in_ok-graphs.graphs.items c.args.program.now to c.fits_together.ensures refl c.in_ok-units.ensures c.in_ok-graphs.ensures c.in_ok-tables.ensures)

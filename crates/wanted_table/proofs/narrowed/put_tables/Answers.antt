@@ -12,7 +12,7 @@ returns c =
     let before = text_before names c.args.steps.now in
     let head = codes "pass wanted\n" in
     let lines = c.in_ok-put_numbers.ensures.0 in
-    let behind = text_behind names c.args.steps.now in
+    let behind = text_behind names (codes "wanted") c.args.steps.now in
     let two = two_pieces start c.put_before.new.text c.extend_from_slice.new.self before head c.in_ok-put_before.ensures c.in_ok-extend_from_slice.ensures.items in
     let three = two_pieces start c.extend_from_slice.new.self c.put_numbers.new.text (before ++ head) lines two c.in_ok-put_numbers.ensures.2 in (
       before ++ head ++ lines ++ behind,

@@ -9,7 +9,7 @@ returns c =
     let rows = c.in_ok-rows.rows.items in
     let before = c.in_ok-rows.ensures.wanted in (
       lines_of (length graph.vars) rows (length graph.nodes),
-      record { rows = rows; are = before; text_is = refl },
+      record { rows = rows; are = before; carried = c.in_ok-rows.ensures.carried; text_is = refl },
       c.in_ok-put_each.ensures
           ∙ ap (λ (l : List (List ℕ)). c.args.text.now.items ++ lines_of (length c.vars.result.now) l (length l)) c.as_slice.ensures.value
           ∙ ap (λ k. c.args.text.now.items ++ lines_of (length c.vars.result.now) rows k) before.are.long
