@@ -1,11 +1,13 @@
 -- What is news of numbers that were raised, and whether any was.
-use Rattle.std.proofs.Common.{◌≡◌, ◌↔◌, inl, inr, ℕ, ◌+◌, ◌<◌, ◌≤◌, max, Bool, true, false, ◌||◌, if◌then◌else◌, nat_eq, List, [], ◌∷◌, length, slice_set, refl, sym, ap, ◌∙◌, subst, arith}
+use Rattle.std.proofs.Common.{◌≡◌, ◌↔◌, inl, inr, ℕ, ◌+◌, ◌<◌, ◌≤◌, max, Bool, true, false, ◌||◌, if◌then◌else◌, nat_eq, List, [], ◌∷◌, length, slice_set, Option, refl, sym, ap, ◌∙◌, subst, arith}
 use Rattle.std.proofs.lemmas.Bool.{cases_Bool, cases_lt, or_parts}
 use Rattle.std.proofs.lemmas.List.{ext_get_or, get_or-set_same, get_or_past, length-set, set-get_or}
+use Rattle.flow_graph.specs.Graphs.{GraphShape}
 use Rattle.flow_graph.specs.Numbering.{is_in}
+use Rattle.wanted_bits.specs.declared.table.Shift.{Shift}
 use Rattle.wanted_bits.specs.NewsShapes.{AreNoted, KeepsRaised, VariablesShape, is_meant}
 use Rattle.wanted_bits.specs.TouchLaws.{set_apart}
-use Rattle.wanted_bits.specs.Touching.{raised_bits}
+use Rattle.wanted_bits.specs.Touching.{IsCaught, raised_bits}
 use Rattle.wanted_bits.specs.Walking.{bits_at, raised_at}
 use Rattle.wanted_bits.specs.WalkLaws.{FewerEach}
 use Rattle.wanted_bits.proofs.NewsJoins.{raised_is, raised_one}
@@ -93,3 +95,13 @@ listed_above others xs bits new long is k = by (is_in k xs) (ap (λ l. bits_at l
     by : (b : Bool) → bits_at new k ≡ (if b then max (bits_at bits k) (bits_at others k) else bits_at bits k) → bits_at bits k ≤ bits_at new k
     by true e = omega (arith, e)
     by false e = omega (arith, e)
+
+-- ---- what was caught
+
+-- stays so
+pub keeps_caught : (graph : GraphShape) (back : ℕ → Option Shift) (list : List ℕ) (news news' : VariablesShape) (xs ys target : List ℕ) → KeepsRaised news xs news' ys → IsCaught graph back list news xs target → IsCaught graph back list news' ys target
+keeps_caught graph back list news news' xs ys target keeps caught = record {
+  wanted = λ k out apart.
+      let both = keeps.same k out in
+      omega (arith, caught.wanted k both.0 apart, both.1);
+}
