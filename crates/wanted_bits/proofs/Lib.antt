@@ -8,5 +8,8 @@ pub mod LeastNumbers
 pub mod Noting
 pub mod Asking
 pub mod Pushing
+pub mod NewsJoins
+pub mod Keeping
+pub mod Noted
 pub mod Shapes
 pub mod Listing

@@ -10,6 +10,9 @@ pub mod JoinedBits
 pub mod Walking
 pub mod GlobalNumbers
 pub mod WalkLaws
+pub mod NewsShapes
+pub mod Touching
+pub mod TouchLaws
 pub mod WantedNet
 pub mod WantedNetLaws
 pub mod Shifts

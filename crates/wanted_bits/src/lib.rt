@@ -17,9 +17,12 @@ mod held;
 mod keys;
 mod lists;
 mod narrowing;
+mod news;
+mod raises;
 mod rows;
 mod solving;
 mod table;
+mod touching;
 mod walking;
 mod wanting;
 

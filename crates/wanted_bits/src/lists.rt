@@ -2,7 +2,8 @@
 ghost use Rattle.std.specs.Prelude.{◌≡◌, ◌↔◌, ◌<◌, ◌≤◌, false, length, max, replicate, slice_set, slice_index_or, IfOk};
 ghost use Rattle.wanted_bits.specs.BitsOrder.{BelowLists, HasFew, joined_bits, lists_laws, lists_rank};
 
-use fix_solve::{AllNews, Lattice};
+use crate::news::SomeVariables;
+use fix_solve::Lattice;
 use mir_base::Memory;
 use std::alloc::Global;
 use std::marker::Model;
@@ -24,7 +25,8 @@ impl Model for WantedList {
 
     ghost view = { λ l. l.bits.items };
 
-    ghost invariant = { λ l. HasFew l.bits.items × (length l.room.items ≡ length l.bits.items) };
+    ghost invariant = { λ l. HasFew l.bits.items × HasFew l.room.items
+        × (length l.room.items ≡ length l.bits.items) };
 }
 
 impl WantedList {
@@ -47,7 +49,7 @@ impl WantedList {
 }
 
 impl Lattice for WantedList {
-    type News = AllNews;
+    type News = SomeVariables;
 
     ghost below = { BelowLists };
 

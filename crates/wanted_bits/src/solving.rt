@@ -2,13 +2,16 @@
 ghost use Rattle.std.specs.Prelude.{◌≡◌, ◌<◌, ◌^◌, true, length, IfOk};
 ghost use Rattle.flow_graph.specs.Blocks.{AreBlocksOf};
 ghost use Rattle.wanted_bits.specs.Asking.{asked_by};
+ghost use Rattle.wanted_bits.specs.Touching.{AreTouched};
 ghost use Rattle.wanted_bits.specs.Walking.{back_in};
 ghost use Rattle.wanted_bits.specs.WantedFlows.{AreCrossed, AreLeastBehind};
 
 use crate::around::Around;
 use crate::flow::WantedFlow;
 use crate::lists::WantedList;
+use crate::news::SomeVariables;
 use crate::table::Shift;
+use crate::touching::touched;
 use fix_solve::{Steps, Work, solve};
 use flow_graph::{Blocks, Edges, Graph};
 use mir_base::Memory;
@@ -51,20 +54,30 @@ pub(crate) fn least(
     if graph.vars().len() >= MOST_VARS {
         return Err(AllocError);
     }
-    let work = least_from::<Brand>(alloc, graph, around, crossed, backs, Blank::new(1))?;
+    let touched = touched(alloc, graph, &crossed.blocks, backs)?;
+    let work = least_from::<Brand>(
+        alloc,
+        graph,
+        around,
+        crossed,
+        backs,
+        touched.as_slice(),
+        Blank::new(1),
+    )?;
     Ok(work)
 }
 
 /// The number of variables from which on ranks are not counted in 64 bits.
 const MOST_VARS: usize = 1 << 56;
 
-/// The same, with the counter that this blank ledger gives.
+/// The same, with the counter that this blank ledger gives, where `touched` has for each block what it touches.
 fn least_from<L: Ledger>(
     alloc: Global,
     graph: &Graph,
     around: &Around<'_>,
     crossed: &Crossed,
     backs: &[Option<Shift>],
+    touched: &[SomeVariables],
     blank: Blank,
 ) -> Result<Work<WantedList>, Memory>
     requires name { blank.name ≡ L.name }
@@ -72,6 +85,7 @@ fn least_from<L: Ledger>(
     requires some { 0 < blank.parts }
     requires crossed { AreCrossed graph.now crossed.now }
     requires backs { length backs.now ≡ length graph.now.nodes }
+    requires touched { AreTouched graph.now (back_in backs.now) crossed.now.blocks.lists touched.now }
     requires few { length graph.now.vars < 2 ^ 56 }
     ensures { IfOk result (AreLeastBehind graph.now
         (asked_by graph.now.shared around.now) crossed.now (back_in backs.now)) }
@@ -82,6 +96,7 @@ fn least_from<L: Ledger>(
         blocks: &crossed.blocks,
         between: &crossed.between,
         backs,
+        touched,
         around,
         ledger: PhantomData,
     };

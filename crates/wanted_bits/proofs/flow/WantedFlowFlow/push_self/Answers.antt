@@ -25,7 +25,7 @@ module _ (g : Over) (c : After-pass g) where
 
   -- what is left in the room
   passed_is : c.pass.new.room.items ≡ before_list c.args.self.now.graph.now (asked_by c.args.self.now.graph.now.shared c.args.self.now.around.now) (back_in c.args.self.now.backs.now) list c.value.inside.bits.items
-  passed_is = c.pass.ensures ∙ ap (before_list c.args.self.now.graph.now (asked_by c.args.self.now.graph.now.shared c.args.self.now.around.now) (back_in c.args.self.now.backs.now) list) c.as_slice.ensures.value
+  passed_is = c.pass.ensures.passed ∙ ap (before_list c.args.self.now.graph.now (asked_by c.args.self.now.graph.now.shared c.args.self.now.around.now) (back_in c.args.self.now.backs.now) list) c.as_slice.ensures.value
 
   room_long : length c.pass.new.room.items ≡ length c.value.inside.bits.items
   room_long = passed_long c.args.self.now.graph.now (asked_by c.args.self.now.graph.now.shared c.args.self.now.around.now) (asks_few c.args.self.now.graph.now.shared c.args.self.now.around.now) (back_in c.args.self.now.backs.now) list c.value.inside.bits.items c.value.inside.bits.items c.pass.new.room.items passed_is long c.value.invariant.0
@@ -55,6 +55,7 @@ invariant_of-value g c =
     let before = known g after in
     let few = passed_few c.args.self.now.graph.now (asked_by c.args.self.now.graph.now.shared c.args.self.now.around.now) (asks_few c.args.self.now.graph.now.shared c.args.self.now.around.now) (back_in c.args.self.now.backs.now) (list g before) c.value.inside.bits.items c.value.inside.bits.items c.pass.new.room.items (passed_is g before) (long g before) c.value.invariant.0 in (
       subst HasFew (sym (written g after)) (joined_few c.value.inside.bits.items c.pass.new.room.items (room_long g before) c.value.invariant.0 few),
+      few,
       room_long g before ∙ sym (ap length (written g after) ∙ joined_long c.value.inside.bits.items c.pass.new.room.items (room_long g before)),
     )
 

@@ -22,7 +22,8 @@ pub invariant_of-self : goal.invariant_of-self
 invariant_of-self c =
     let known = (goal.at.invariant_of-self c).After-raise_each in (
       subst HasFew (sym (written known)) (joined_few c.self.inside.bits.items c.other.inside.bits.items (long known) c.self.invariant.0 c.other.invariant.0),
-      c.self.invariant.1 ∙ sym (ap length (written known) ∙ joined_long c.self.inside.bits.items c.other.inside.bits.items (long known)),
+      c.self.invariant.1,
+      c.self.invariant.2 ∙ sym (ap length (written known) ∙ joined_long c.self.inside.bits.items c.other.inside.bits.items (long known)),
     )
 
 pub returns-clause-joined : goal.returns-clause-joined
