@@ -21,8 +21,8 @@ use std::alloc::Global;
 use std::marker::PhantomData;
 use std::sync::ledger::Ledger;
 
-/// Wanted bits flow from block to block against the edges. `touched` has for each block some variables, among them those
-/// that it touches.
+/// Wanted bits flow from block to block against the edges. `touched` has for each block some variables, among them
+/// those that it touches.
 #[derive(Drop)]
 pub(crate) struct WantedFlow<'a, L: Ledger> {
     pub(crate) graph: &'a Graph,
@@ -129,8 +129,8 @@ impl<'a, L: Ledger> Flow for WantedFlow<'a, L> {
 }
 
 impl<'a, L: Ledger> WantedFlow<'a, L> {
-    /// Raises numbers to at least those before the block that an edge leaves, where these are behind it; puts the variables
-    /// of those that rose among their news, and answers whether there are any. The room takes as many.
+    /// Raises numbers to at least those before the block that an edge leaves, where these are behind it; puts the
+    /// variables of those that rose among their news, and answers whether there are any. The room takes as many.
     fn join_news(
         &self,
         number: usize,
@@ -211,8 +211,7 @@ impl<'a, L: Ledger> WantedFlow<'a, L> {
         &self.touched[edge.source]
     }
 
-    /// Joins what passes where these variables are the news behind the block that an edge leaves, and it touches only
-    /// those.
+    /// The same where these variables alone are news behind the block, and it touches none but those.
     fn join_listed(
         &self,
         number: usize,
@@ -244,8 +243,8 @@ impl<'a, L: Ledger> WantedFlow<'a, L> {
         one | other
     }
 
-    /// Leaves in the room the numbers before the block that an edge leaves, for these variables and those that it touches,
-    /// where these numbers are behind it.
+    /// Leaves in the room the numbers before the block that an edge leaves, for these variables and those that it
+    /// touches, where these numbers are behind it.
     fn pass_listed(
         &self,
         number: usize,
