@@ -1,6 +1,6 @@
 -- What a push leaves that takes over and raises few numbers, where the others are there already.
-use Rattle.std.proofs.Common.{◌≡◌, ◌≢◌, ◌↔◌, inl, inr, ℕ, ◌<◌, ◌≤◌, max, Bool, true, false, ◌||◌, if◌then◌else◌, nat_eq, eq-eqb, List, [], ◌∷◌, ◌++◌, length, slice_set, Option, refl, sym, ap, ◌∙◌, subst, arith}
-use Rattle.std.proofs.lemmas.Bool.{cases_Bool, cases_eq, cases_lt, eqb-true, ne_eqb, or_parts}
+use Rattle.std.proofs.Common.{◌≡◌, inl, inr, ℕ, max, Bool, true, false, ◌||◌, if◌then◌else◌, nat_eq, List, [], ◌∷◌, length, slice_set, Option, refl, sym, ap, ◌∙◌, arith}
+use Rattle.std.proofs.lemmas.Bool.{cases_Bool, cases_eq, cases_lt, eqb-true, or_parts}
 use Rattle.std.proofs.lemmas.List.{ext_get_or, get_or-set_other, get_or-set_same, get_or_past, length-set, set_past}
 use Rattle.flow_graph.specs.Graphs.{GraphShape}
 use Rattle.flow_graph.specs.Numbering.{is_in}
@@ -8,7 +8,7 @@ use Rattle.wanted_bits.specs.declared.table.Shift.{Shift}
 use Rattle.wanted_bits.specs.BitsOrder.{HasFew, joined_bits}
 use Rattle.wanted_bits.specs.JoinedBits.{joined_at, joined_long}
 use Rattle.wanted_bits.specs.NewsShapes.{AreMeant, StandIn, VariablesShape}
-use Rattle.wanted_bits.specs.Touching.{AreReached, IsCaught, raised_bits, taken_bits, touched_in}
+use Rattle.wanted_bits.specs.Touching.{AreReached, raised_bits, taken_bits, touched_in}
 use Rattle.wanted_bits.specs.TouchLaws.{list_alike, list_apart, set_apart}
 use Rattle.wanted_bits.specs.Wanted.{Asked}
 use Rattle.wanted_bits.specs.Walking.{before_list, bits_at, raised_at}
@@ -125,18 +125,6 @@ module _ (others : List ℕ) where
 -- the variables that are meant stand in the list, where not all are
 pub meant_stand : (those : List ℕ) (some : VariablesShape) {b : Bool} → b ≡ some.whole → b ≡ false → AreMeant those some → StandIn those some.listed
 meant_stand those some {b = b} is off meant k on = ap (λ t. t || is_in k some.listed) (sym off ∙ is) ∙ meant k on
-
--- and what was caught is reached
-pub caught_reached : (graph : GraphShape) (back : ℕ → Option Shift) (list : List ℕ) (news touched : VariablesShape) (behind target : List ℕ) → HasFew behind → news.whole ≡ false → AreMeant (touched_in graph back list) touched → touched.whole ≡ false
-    → IsCaught graph back list news behind target → AreReached news.listed touched.listed behind target
-caught_reached graph back list news touched behind target few off meant touched_off caught k out apart =
-    omega (arith, few k, caught.wanted k (ap (λ b. b || is_in k news.listed) off ∙ out) (none (is_in k (touched_in graph back list)) refl))
-  where
-    none : (b : Bool) → is_in k (touched_in graph back list) ≡ b → is_in k (touched_in graph back list) ≡ false
-    none true on =
-        let bad : true ≡ false = sym (meant k on) ∙ ap (λ t. t || is_in k touched.listed) touched_off ∙ apart in
-        absurd (cc)
-    none false is = is
 
 module _ (graph : GraphShape) (asked : Asked) (back : ℕ → Option Shift) (list : List ℕ) (raised touched from room : List ℕ) (fits : length room ≡ length from) (covered : StandIn (touched_in graph back list) touched) where
   -- what is taken over

@@ -1,6 +1,6 @@
--- Some variables, as `SomeVariables` keeps them, and when they are news of a list. Cited by contracts of private functions
--- and by ghost members.
-use Rattle.std.specs.Prelude.{◌≡◌, ℕ, Bool, true, false, ◌||◌, List, [], ◌∷◌, ◌++◌, length}
+-- Some variables, as `SomeVariables` keeps them, and when they are news of a list. Cited by contracts of private
+-- functions and by ghost members.
+use Rattle.std.specs.Prelude.{◌≡◌, ℕ, Bool, true, false, ◌||◌, List, [], length}
 use Rattle.flow_graph.specs.Numbering.{is_in}
 use Rattle.wanted_bits.specs.Walking.{bits_at}
 

@@ -1,6 +1,6 @@
 -- What the nodes of a block do not touch passes through it as it is, and nothing else depends on it. For proofs, and the
 -- ghost members of `WantedFlow`.
-use Rattle.std.proofs.Common.{◌≡◌, ◌≢◌, inl, inr, ℕ, suc, ◌-◌, ◌<◌, min, max, Bool, true, false, ◌||◌, if◌then◌else◌, nat_eq, eq-eqb, true≢false, List, [], ◌∷◌, ◌++◌, flat_map, length, slice_get, slice_set, Option, Some, None, refl, sym, ap, ◌∙◌, arith}
+use Rattle.std.proofs.Common.{◌≡◌, inl, inr, ℕ, suc, ◌-◌, min, max, Bool, true, false, ◌||◌, if◌then◌else◌, nat_eq, eq-eqb, true≢false, List, [], ◌∷◌, ◌++◌, flat_map, length, slice_get, slice_set, Option, Some, None, refl, sym, ap, ◌∙◌, arith}
 use Rattle.std.proofs.lemmas.Bool.{cases_lt, or_parts}
 use Rattle.std.proofs.lemmas.List.{get_or-set_other, get_or_past}
 use Rattle.mir_base.specs.declared.operators.UnOp.TheVariants.{Neg, Not}
@@ -12,7 +12,7 @@ use Rattle.mir_base.specs.Frames.{shared_vars}
 use Rattle.mir_base.specs.Shapes.{into_vars, operand_vars, rhs_vars, test_vars}
 use Rattle.flow_graph.specs.declared.nodes.Node.{Node}
 use Rattle.flow_graph.specs.declared.nodes.Node.TheVariants.{Start, Skip, Assign, Print, Guard, Call, Test, Return}
-use Rattle.flow_graph.specs.Graphs.{GraphShape, assigns, node_reads}
+use Rattle.flow_graph.specs.Graphs.{GraphShape, assigns}
 use Rattle.flow_graph.specs.Numbering.{is_in}
 use Rattle.wanted_bits.specs.declared.table.Shift.{Shift}
 use Rattle.wanted_bits.specs.GlobalNumbers.{is_in_append}

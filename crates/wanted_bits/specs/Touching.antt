@@ -1,5 +1,5 @@
--- Which variables the nodes of a block touch, and what a push has to look at. Cited by contracts of private functions and
--- by the ghost members of `WantedFlow`.
+-- Which variables the nodes of a block touch, and what a push has to look at. Cited by contracts of private functions
+-- and by the ghost members of `WantedFlow`.
 use Rattle.std.specs.Prelude.{◌≡◌, ℕ, ◌≤◌, min, false, List, [], ◌∷◌, ◌++◌, flat_map, length, slice_get, slice_set, Option, Some, None}
 use Rattle.mir_base.specs.Frames.{shared_vars}
 use Rattle.mir_base.specs.Shapes.{into_vars, operand_vars, rhs_vars, test_vars}

@@ -17,7 +17,7 @@ use Rattle.wanted_bits.specs.BitsOrder.{BelowLists, lists_rank}
 use Rattle.wanted_bits.specs.NewsShapes.{FitsAny, IsAllNew, IsNoneNew, VariablesShape, is_meant}
 use Rattle.wanted_bits.specs.Touching.{AreTouched, IsCaught}
 use Rattle.wanted_bits.specs.TouchLaws.{list_apart}
-use Rattle.wanted_bits.specs.Walking.{back_in, before_list, bits_at}
+use Rattle.wanted_bits.specs.Walking.{back_in, before_list}
 use Rattle.wanted_bits.specs.WantedNet.{capped, wanted_net}
 use Rattle.wanted_bits.specs.WantedNetLaws.{below_fewer, capped_at, wanted_laws}
 

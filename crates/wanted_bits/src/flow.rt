@@ -21,8 +21,8 @@ use std::alloc::Global;
 use std::marker::PhantomData;
 use std::sync::ledger::Ledger;
 
-/// Wanted bits flow from block to block against the edges. `touched` has for each block some variables, among them those
-/// that it touches.
+/// Wanted bits flow from block to block against the edges. `touched` has for each block some variables, among them
+/// those that it touches.
 #[derive(Drop)]
 pub(crate) struct WantedFlow<'a, L: Ledger> {
     pub(crate) graph: &'a Graph,
@@ -129,8 +129,8 @@ impl<'a, L: Ledger> Flow for WantedFlow<'a, L> {
 }
 
 impl<'a, L: Ledger> WantedFlow<'a, L> {
-    /// Raises numbers to at least those before the block that an edge leaves, where these are behind it; puts the variables
-    /// of those that rose among their news, and answers whether there are any. The room takes as many.
+    /// Raises numbers to at least those before the block that an edge leaves, where these are behind it; puts the
+    /// variables of those that rose among their news, and answers whether there are any. The room takes as many.
     fn join_news(
         &self,
         number: usize,
@@ -168,6 +168,38 @@ impl<'a, L: Ledger> WantedFlow<'a, L> {
                 bits_news,
             )
         }
+    }
+
+    /// The same where these variables alone were raised behind the block, and it touches none but those.
+    fn join_listed(
+        &self,
+        number: usize,
+        behind: &[u8],
+        raised: &[usize],
+        touched: &[usize],
+        room: &mut [u8],
+        bits: &mut [u8],
+        bits_news: &mut SomeVariables,
+    ) -> bool
+        requires valid { IsWantedFlow self.now }
+        requires in_range { number < length self.now.between.now.edges.items }
+        requires fits { length room.old ≡ length behind.now }
+        requires long { length bits.old ≡ length behind.now }
+        requires few { HasFew behind.now }
+        requires room_few { HasFew room.old }
+        requires covered { StandIn (touched_in self.now.graph.now (back_in self.now.backs.now)
+            (list_left self.now number)) touched.now }
+        requires caught { AreReached raised.now touched.now behind.now bits.old }
+        ensures fits { length room.new ≡ length room.old }
+        ensures room_few { HasFew room.new }
+        ensures joined { bits.new ≡ joined_bits bits.old (passed_back self.now number behind.now) }
+        ensures unchanged { (result ≡ false) ↔ (bits.new ≡ bits.old) }
+        ensures keeps { KeepsRaised bits_news.old bits.old bits_news.new bits.new }
+    {
+        self.pass_listed(number, behind, raised, touched, room);
+        let one = raise_listed(bits, room, raised, bits_news);
+        let other = raise_listed(bits, room, touched, bits_news);
+        one | other
     }
 
     /// The same along an edge of a block to itself, where the numbers themselves are behind it.
@@ -211,41 +243,8 @@ impl<'a, L: Ledger> WantedFlow<'a, L> {
         &self.touched[edge.source]
     }
 
-    /// Joins what passes where these variables are the news behind the block that an edge leaves, and it touches only
-    /// those.
-    fn join_listed(
-        &self,
-        number: usize,
-        behind: &[u8],
-        raised: &[usize],
-        touched: &[usize],
-        room: &mut [u8],
-        bits: &mut [u8],
-        bits_news: &mut SomeVariables,
-    ) -> bool
-        requires valid { IsWantedFlow self.now }
-        requires in_range { number < length self.now.between.now.edges.items }
-        requires fits { length room.old ≡ length behind.now }
-        requires long { length bits.old ≡ length behind.now }
-        requires few { HasFew behind.now }
-        requires room_few { HasFew room.old }
-        requires covered { StandIn (touched_in self.now.graph.now (back_in self.now.backs.now)
-            (list_left self.now number)) touched.now }
-        requires caught { AreReached raised.now touched.now behind.now bits.old }
-        ensures fits { length room.new ≡ length room.old }
-        ensures room_few { HasFew room.new }
-        ensures joined { bits.new ≡ joined_bits bits.old (passed_back self.now number behind.now) }
-        ensures unchanged { (result ≡ false) ↔ (bits.new ≡ bits.old) }
-        ensures keeps { KeepsRaised bits_news.old bits.old bits_news.new bits.new }
-    {
-        self.pass_listed(number, behind, raised, touched, room);
-        let one = raise_listed(bits, room, raised, bits_news);
-        let other = raise_listed(bits, room, touched, bits_news);
-        one | other
-    }
-
-    /// Leaves in the room the numbers before the block that an edge leaves, for these variables and those that it touches,
-    /// where these numbers are behind it.
+    /// Leaves in the room the numbers before the block that an edge leaves, for these variables and those that it
+    /// touches, where these numbers are behind it.
     fn pass_listed(
         &self,
         number: usize,

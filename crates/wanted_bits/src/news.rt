@@ -1,4 +1,4 @@
-// Some of the variables: those that were raised behind a block since it was pushed last, and those that a block touches.
+// Some of the variables: those that were raised behind a block since it was pushed last, or those that it touches.
 ghost use Rattle.std.specs.Prelude.{◌≡◌, ◌∷◌, [], false, IfOk};
 ghost use Rattle.wanted_bits.specs.NewsShapes.{AreNoted, FitsAny, IsAllNew, IsNoneNew};
 

@@ -85,7 +85,8 @@ fn least_from<L: Ledger>(
     requires some { 0 < blank.parts }
     requires crossed { AreCrossed graph.now crossed.now }
     requires backs { length backs.now ≡ length graph.now.nodes }
-    requires touched { AreTouched graph.now (back_in backs.now) crossed.now.blocks.lists touched.now }
+    requires touched { AreTouched graph.now (back_in backs.now) crossed.now.blocks.lists
+        touched.now }
     requires few { length graph.now.vars < 2 ^ 56 }
     ensures { IfOk result (AreLeastBehind graph.now
         (asked_by graph.now.shared around.now) crossed.now (back_in backs.now)) }

@@ -1,4 +1,4 @@
-use Rattle.std.proofs.Common.{◌∙◌, ◌+◌, ℕ, List, drop, get_or, refl, sym, ap, arith, le_refl}
+use Rattle.std.proofs.Common.{◌∙◌, ◌+◌, drop, get_or, refl, sym, ap, arith, le_refl}
 use Rattle.std.proofs.lemmas.List.{drop_more}
 use Rattle.wanted_bits.specs.Touching.{raised_bits}
 use Rattle.wanted_bits.specs.Walking.{bits_at}

@@ -1,4 +1,3 @@
-use Rattle.std.proofs.Common.{◌≡◌, ◌∙◌, length, sym, ap, arith}
 use Rattle.wanted_bits.proofs.Noting.{block_nodes}
 use Rattle.wanted_bits.proofs.touching.touched_by.Goals as goal
 

@@ -1,4 +1,3 @@
-use Rattle.std.proofs.Common.{◌≡◌, length}
 use Rattle.wanted_bits.specs.Walking.{back_in}
 use Rattle.wanted_bits.proofs.Noted.{TouchedBelow}
 use Rattle.wanted_bits.proofs.touching.touched_by.Given as goal

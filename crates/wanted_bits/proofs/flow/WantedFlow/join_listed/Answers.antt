@@ -1,4 +1,4 @@
-use Rattle.std.proofs.Common.{◌∙◌, length, sym, ap}
+use Rattle.std.proofs.Common.{◌∙◌, sym, ap}
 use Rattle.wanted_bits.specs.Asking.{asked_by}
 use Rattle.wanted_bits.specs.Touching.{raised_bits}
 use Rattle.wanted_bits.specs.Walking.{back_in}

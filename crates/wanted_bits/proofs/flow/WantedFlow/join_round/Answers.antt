@@ -1,4 +1,4 @@
-use Rattle.std.proofs.Common.{◌∙◌, ◌≡◌, ◌≤◌, ℕ, List, [], length, refl, sym, ap, subst, le_refl}
+use Rattle.std.proofs.Common.{◌∙◌, [], length, refl, sym, ap, subst, le_refl}
 use Rattle.wanted_bits.specs.Asking.{asked_by}
 use Rattle.wanted_bits.specs.NewsShapes.{StandIn}
 use Rattle.wanted_bits.specs.Touching.{raised_bits, touched_in}

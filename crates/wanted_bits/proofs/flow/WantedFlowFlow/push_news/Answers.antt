@@ -39,8 +39,7 @@ pub invariant_of-into : goal.invariant_of-into
 invariant_of-into g c =
     let after = (goal.at.invariant_of-into g c).After-join_news in
     let f = c.args.self.now in
-    let graph = f.graph.now in
-    (
+    let graph = f.graph.now in (
       subst HasFew (sym (written g after)) (news_few graph (asked_by graph.shared f.around.now) (asks_few graph.shared f.around.now) (back_in f.backs.now) (list_left f c.args.number) c.from.inside.bits.items c.into.inside.bits.items c.join_news.new.bits (long g after) c.from.invariant.0 c.into.invariant.0 (joined g after)),
       c.join_news.ensures.room_few,
       c.join_news.ensures.fits ∙ c.into.invariant.2 ∙ sym (ap length (written g after) ∙ as_long g after),

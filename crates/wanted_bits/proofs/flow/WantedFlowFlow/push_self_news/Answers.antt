@@ -32,8 +32,7 @@ invariant_of-value g c =
     let after = (goal.at.invariant_of-value g c).After-join_round in
     let f = c.args.self.now in
     let graph = f.graph.now in
-    let bits = c.value.inside.bits.items in
-    (
+    let bits = c.value.inside.bits.items in (
       subst HasFew (sym (written g after)) (news_few graph (asked_by graph.shared f.around.now) (asks_few graph.shared f.around.now) (back_in f.backs.now) (list_left f c.args.number) bits bits c.join_round.new.bits refl c.value.invariant.0 c.value.invariant.0 (joined g after)),
       c.join_round.ensures.room_few,
       c.join_round.ensures.fits ∙ c.value.invariant.2 ∙ sym (ap length (written g after) ∙ as_long g after),
