@@ -1,7 +1,6 @@
 -- What is made of each unit is what its arguments always are, and of all units the one program, which keeps its runs.
 use Rattle.std.proofs.Common.{◌≡◌, inl, inr, ℕ, ◌<◌, List, [], ◌∷◌, ◌++◌, length, slice_get, ℤ, Option, Some, refl, sym, ap, ◌∙◌, subst, arith}
 use Rattle.std.proofs.lemmas.Option.{slice_get_within}
-use Rattle.mir_base.specs.declared.instructions.Operand.{Operand}
 use Rattle.mir_base.specs.Shapes.{IsProgram, ProgramShape, UnitShape}
 use Rattle.mir_base.specs.UnitRuns.{UnitCheaper, UnitSame}
 use Rattle.flow_graph.specs.declared.nodes.Node.{Node}
@@ -18,18 +17,18 @@ use Rattle.jump_clean.specs.CleanLaws.{clean_is_one}
 use Rattle.program_pass.specs.PassPrograms.{AllPassed, CleanedLaid, KeepsRuns, LoweredClean, PassKeeps}
 use Rattle.program_pass.specs.PassProgramLaws.{at, between_at, graph_is, graph_program, graphs, graphs_count, middles, passes_keep}
 use Rattle.program_pass.specs.RefitLaws.{called_fits}
-use Rattle.constant_args.specs.ConstantArguments.{AreConstants, Begins, IsCallOf, Knowing, begun, constant_puts}
+use Rattle.constant_args.specs.ConstantArguments.{AreConstants, ArgumentsAssigned, CallSite, IsCallOf, Knowing, put_behind_start, constant_puts}
 use Rattle.constant_args.specs.Gathered.{AreFronts, CallsExist, IsCallBefore, KnowingUnit, KnowsMade}
 use Rattle.constant_args.proofs.ArgumentStacks.{CallsIn, knowing_keep}
-use Rattle.constant_args.proofs.Begun.{begun_calls, begun_can}
+use Rattle.constant_args.proofs.BehindStart.{behind_start_calls, behind_start_can}
 use Rattle.constant_args.proofs.Constants.{puts_below, puts_same}
 
 -- ---- one graph
 
-module _ (graph : GraphShape) (constants : List (Option ℤ)) (nodes : List Node) (can : CanMake graph.vars graph.received graph.nodes) (are : nodes ≡ begun graph.nodes (constant_puts graph.received constants)) where
+module _ (graph : GraphShape) (constants : List (Option ℤ)) (nodes : List Node) (can : CanMake graph.vars graph.received graph.nodes) (are : nodes ≡ put_behind_start graph.nodes (constant_puts graph.received constants)) where
   -- the nodes make a graph
   pub knows_can : CanMake graph.vars graph.received nodes
-  knows_can = subst (CanMake graph.vars graph.received) (sym are) (begun_can graph.vars graph.received graph.nodes can (constant_puts graph.received constants) (puts_below (length graph.vars) graph.received constants can.received_below))
+  knows_can = subst (CanMake graph.vars graph.received) (sym are) (behind_start_can graph.vars graph.received graph.nodes can (constant_puts graph.received constants) (puts_below (length graph.vars) graph.received constants can.received_below))
 
   -- and make no calls but those of the graph
   pub knows_made : (known : GraphShape) → IsMade graph.name graph.shared graph.vars graph.received nodes known → UnitSame (graph_machine graph.shared graph.received nodes) (machine_of known)
@@ -40,12 +39,12 @@ module _ (graph : GraphShape) (constants : List (Option ℤ)) (nodes : List Node
     made = made;
     same = same;
     cheaper = cheaper;
-    begun_calls = λ called count c. begun_calls graph.vars graph.received graph.nodes can (constant_puts graph.received constants) (puts_below (length graph.vars) graph.received constants can.received_below) called count (subst (λ l. NodesCall l called count) are c);
+    behind_start_calls = λ called count c. behind_start_calls graph.vars graph.received graph.nodes can (constant_puts graph.received constants) (puts_below (length graph.vars) graph.received constants can.received_below) called count (subst (λ l. NodesCall l called count) are c);
     known_calls = among;
   }
 
 -- what is kept of it
-pub knows_keeps : (units : List UnitShape) (u : ℕ) (graph : GraphShape) (constants : List (Option ℤ)) (known : GraphShape) → AreConstants (IsCallOf units) u constants → KnowsMade graph constants known → PassKeeps (Begins units u) graph known
+pub knows_keeps : (units : List UnitShape) (u : ℕ) (graph : GraphShape) (constants : List (Option ℤ)) (known : GraphShape) → AreConstants (IsCallOf units) u constants → KnowsMade graph constants known → PassKeeps (ArgumentsAssigned units u) graph known
 knows_keeps units u graph constants known are m = record {
   name = m.made.name_is;
   globals = same_globals graph known m.made.shared_is m.made.vars_are;
@@ -55,7 +54,7 @@ knows_keeps units u graph constants known are m = record {
   received = refl;
   same = m.same;
   cheaper = m.cheaper;
-  middle_calls = m.begun_calls;
+  middle_calls = m.behind_start_calls;
   calls = m.known_calls;
 }
 
@@ -63,31 +62,29 @@ knows_keeps units u graph constants known are m = record {
 pub knowing_one : (units : List UnitShape) (u : ℕ) (graph a b : GraphShape) → Knowing units u graph a → Knowing units u graph b → a ≡ b
 knowing_one units u graph a b p q =
     let puts : constant_puts graph.received p.constants ≡ constant_puts graph.received q.constants = puts_same graph.received p.constants q.constants (λ i c. (λ known. (q.are i c).1 ((p.are i c).0 known), λ known. (p.are i c).1 ((q.are i c).0 known))) in
-    made_is_one graph.name graph.shared graph.vars graph.received (begun graph.nodes (constant_puts graph.received p.constants)) a b p.made
-    (subst (λ l. IsMade graph.name graph.shared graph.vars graph.received (begun graph.nodes l) b) (sym puts) q.made)
+    made_is_one graph.name graph.shared graph.vars graph.received (put_behind_start graph.nodes (constant_puts graph.received p.constants)) a b p.made
+    (subst (λ l. IsMade graph.name graph.shared graph.vars graph.received (put_behind_start graph.nodes l) b) (sym puts) q.made)
 
 -- ---- the calls of the units
 
 -- the same calls give the same constants
-constants_move : (CallsOf Others : ℕ → List Operand → Type 0) (u : ℕ) (constants : List (Option ℤ)) → ((operands : List Operand) → CallsOf u operands → Others u operands)
-    → ((operands : List Operand) → Others u operands → CallsOf u operands) → AreConstants CallsOf u constants → AreConstants Others u constants
+constants_move : (CallsOf Others : ℕ → CallSite → Type 0) (u : ℕ) (constants : List (Option ℤ)) → ((site : CallSite) → CallsOf u site → Others u site)
+    → ((site : CallSite) → Others u site → CallsOf u site) → AreConstants CallsOf u constants → AreConstants Others u constants
 constants_move CallsOf Others u constants forth back are i c = (
-  λ known. let always = (are i c).0 known in record { later = always.later; called = (always.called.0, forth always.called.0 always.called.1); each = λ operands call. always.each operands (back operands call) },
-  λ always. (are i c).1 (record { later = always.later; called = (always.called.0, back always.called.0 always.called.1); each = λ operands call. always.each operands (forth operands call) }),
+  λ known. let always = (are i c).0 known in record { later = always.later; some = (always.some.0, forth always.some.0 always.some.1, always.some.2); each = λ site call. always.each site (back site call) },
+  λ always. (are i c).1 (record { later = always.later; some = (always.some.0, back always.some.0 always.some.1, always.some.2); each = λ site call. always.each site (forth site call) }),
 )
 
 module _ (units : List UnitShape) (gs : List GraphShape) (fronts : AreFronts units gs) where
   -- a call of the graphs
-  call_forth : (u : ℕ) (operands : List Operand) → IsCallBefore gs (length gs) 0 u operands → IsCallOf units u operands
-  call_forth u operands call =
-      let lt = slice_get_within gs call.caller call.graph call.graph_at in
-      let unit = some_at units call.caller (omega (arith, lt, fronts.long)) in
-      let front = fronts.are call.caller unit.0 call.graph unit.1 call.graph_at in
+  call_forth : (u : ℕ) (site : CallSite) → IsCallBefore gs (length gs) 0 u site → IsCallOf units u site
+  call_forth u site call =
+      let lt = slice_get_within gs site.caller site.graph call.graph_at in
+      let unit = some_at units site.caller (omega (arith, lt, fronts.long)) in
+      let front = fronts.are site.caller unit.0 site.graph unit.1 call.graph_at in
       record {
-        caller = call.caller;
         unit = unit.0;
         lowered = front.0;
-        cleaned = call.graph;
         number = call.number;
         into = call.into;
         next = call.next;
@@ -98,22 +95,20 @@ module _ (units : List UnitShape) (gs : List GraphShape) (fronts : AreFronts uni
       }
 
   -- and of the units
-  call_back : (u : ℕ) (operands : List Operand) → IsCallOf units u operands → IsCallBefore gs (length gs) 0 u operands
-  call_back u operands call =
-      let low = slice_get_within units call.caller call.unit call.unit_at in
-      let lt : call.caller < length gs = omega (arith, low, fronts.long) in
-      let graph = some_at gs call.caller lt in
-      let front = fronts.are call.caller call.unit graph.0 call.unit_at graph.1 in
+  call_back : (u : ℕ) (site : CallSite) → IsCallOf units u site → IsCallBefore gs (length gs) 0 u site
+  call_back u site call =
+      let low = slice_get_within units site.caller call.unit call.unit_at in
+      let lt : site.caller < length gs = omega (arith, low, fronts.long) in
+      let graph = some_at gs site.caller lt in
+      let front = fronts.are site.caller call.unit graph.0 call.unit_at graph.1 in
       let lowered = lowered_is_one call.unit front.0 call.lowered front.1.is_lowered call.is_lowered in
-      let cleaned : graph.0 ≡ call.cleaned = clean_is_one front.0 graph.0 call.cleaned front.1.within front.1.is_cleaned (subst (λ g. IsClean g call.cleaned) (sym lowered) call.is_cleaned) in
+      let cleaned : graph.0 ≡ site.graph = clean_is_one front.0 graph.0 site.graph front.1.within front.1.is_cleaned (subst (λ g. IsClean g site.graph) (sym lowered) call.is_cleaned) in
       record {
-        caller = call.caller;
-        graph = graph.0;
         number = call.number;
         into = call.into;
         next = call.next;
-        graph_at = graph.1;
-        here = ap (λ (g : GraphShape). slice_get g.nodes call.number) cleaned ∙ call.here;
+        graph_at = graph.1 ∙ ap Some cleaned;
+        here = call.here;
         before = inl lt;
       }
 
@@ -167,40 +162,38 @@ fronts_more units gs more number unit lowered graph long are at made is u v g at
 
 -- ---- the program
 
-module _ (source target : ProgramShape) (program : IsProgram source.globals source.units) (globals : target.globals ≡ source.globals) (all : AllPassed (Knowing source.units) (Begins source.units) source.units target.units) where
+module _ (source target : ProgramShape) (program : IsProgram source.globals source.units) (globals : target.globals ≡ source.globals) (all : AllPassed (Knowing source.units) (ArgumentsAssigned source.units) source.units target.units) where
   abbrev own : List GraphShape
-  own = graphs (Knowing source.units) (Begins source.units) source target program globals all
+  own = graphs (Knowing source.units) (ArgumentsAssigned source.units) source target program globals all
 
   -- a call of the graphs is one of the units
-  own_call : (u : ℕ) (operands : List Operand) → CallsIn own u operands → IsCallOf source.units u operands
-  own_call u operands call =
+  own_call : (u : ℕ) (site : CallSite) → CallsIn own u site → IsCallOf source.units u site
+  own_call u site call =
       let there = call.there in
-      let lt : call.caller < length source.units = omega (arith, there, graphs_count (Knowing source.units) (Begins source.units) source target program globals all) in
-      let a = at (Knowing source.units) (Begins source.units) source target program globals all call.caller lt in
+      let lt : site.caller < length source.units = omega (arith, there, graphs_count (Knowing source.units) (ArgumentsAssigned source.units) source target program globals all) in
+      let a = at (Knowing source.units) (ArgumentsAssigned source.units) source target program globals all site.caller lt in
+      let cleaned : site.graph ≡ a.made.cleaned = call.graph_is ∙ graph_is (Knowing source.units) (ArgumentsAssigned source.units) source target program globals all site.caller lt in
       record {
-        caller = call.caller;
         unit = a.source;
         lowered = a.made.lowered;
-        cleaned = a.made.cleaned;
         number = call.number;
         into = call.into;
         next = call.next;
         unit_at = a.source_at;
         is_lowered = a.made.front.is_lowered;
-        is_cleaned = a.made.front.is_cleaned;
-        here = ap (λ (g : GraphShape). slice_get g.nodes call.number) (sym (graph_is (Knowing source.units) (Begins source.units) source target program globals all call.caller lt)) ∙ call.here;
+        is_cleaned = subst (IsClean a.made.lowered) (sym cleaned) a.made.front.is_cleaned;
+        here = call.here;
       }
 
   -- the target is the same, evaluates no more operators and is never deeper
   pub knowing_keeps : KeepsRuns source target
-  knowing_keeps = passes_keep (Knowing source.units) (Begins source.units) source target program globals all
-      (knowing_keep own (middles (Knowing source.units) (Begins source.units) source target program globals all) (graph_program (Knowing source.units) (Begins source.units) source target program globals all) (λ u lt.
-      let b = between_at (Knowing source.units) (Begins source.units) source target program globals all u lt in
+  knowing_keeps = passes_keep (Knowing source.units) (ArgumentsAssigned source.units) source target program globals all
+      (knowing_keep own (middles (Knowing source.units) (ArgumentsAssigned source.units) source target program globals all) (graph_program (Knowing source.units) (ArgumentsAssigned source.units) source target program globals all) (λ u lt.
+      let b = between_at (Knowing source.units) (ArgumentsAssigned source.units) source target program globals all u lt in
       record {
         constants = b.constants;
         nodes = b.nodes;
         shared = b.shared;
         received = b.received;
-        later = λ i c known. ((b.are i c).0 known).later;
-        given = λ i c known operands call. ((b.are i c).0 known).each operands (own_call u operands call);
+        given = λ i c known. let always = (b.are i c).0 known in record { later = always.later; each = λ site call. always.each site (own_call u site call) };
       }))
