@@ -98,11 +98,14 @@ module _ (first second : Machine) (receives : first.receives ≡ second.receives
       (alike.0, record { related = alike.1; comes = comes_next first f next comes (λ more rest. ap (λ t. frame_after_transition (frame_after first.code more) t rest) is) })
   still_in_run f comes (Prints v next) (Prints w next') is over alike =
       (alike.0, record { related = alike.1; comes = comes_next first f next comes (λ more rest. ap (λ t. frame_after_transition (frame_after first.code more) t rest) is) })
-  still_in_run f comes (Calls unit entry into next) (Calls unit' entry' into' next') is over alike =
-      (alike.0, alike.1, λ a one. record {
-        related = alike.2 a one;
-        comes = comes_answered first f (resumed into a next) a comes (subst (λ n. IsCallAnswer n a) over one) (λ more rest. ap (λ t. frame_after_transition (frame_after first.code more) t (a ∷ rest)) is);
-      })
+  still_in_run f comes (Calls unit entry into next) (Calls unit' entry' into' next') is over alike = (
+    alike.0,
+    alike.1,
+    λ a one. record {
+      related = alike.2 a one;
+      comes = comes_answered first f (resumed into a next) a comes (subst (λ n. IsCallAnswer n a) over one) (λ more rest. ap (λ t. frame_after_transition (frame_after first.code more) t (a ∷ rest)) is);
+    },
+  )
   still_in_run f comes (Returns a) (Returns b) is over alike = alike
   still_in_run f comes (Traps k c) (Traps l d) is over alike = alike
   still_in_run f comes _ _ is over alike = absurd alike
