@@ -18,7 +18,7 @@ use Rattle.jump_clean.specs.CleanLaws.{clean_is_one}
 use Rattle.program_pass.specs.PassPrograms.{AllPassed, CleanedLaid, KeepsRuns, LoweredClean, PassKeeps}
 use Rattle.program_pass.specs.PassProgramLaws.{at, between_at, graph_is, graph_program, graphs, graphs_count, middles, passes_keep}
 use Rattle.program_pass.specs.RefitLaws.{called_fits}
-use Rattle.constant_args.specs.ConstantArguments.{AreConstants, Begins, IsCallOf, Knowing, begun, constant_puts}
+use Rattle.constant_args.specs.ConstantArguments.{AreConstants, Begins, CallSite, IsCallOf, Knowing, begun, constant_puts}
 use Rattle.constant_args.specs.Gathered.{AreFronts, CallsExist, IsCallBefore, KnowingUnit, KnowsMade}
 use Rattle.constant_args.proofs.ArgumentStacks.{CallsIn, knowing_keep}
 use Rattle.constant_args.proofs.Begun.{begun_calls, begun_can}
@@ -69,25 +69,23 @@ knowing_one units u graph a b p q =
 -- ---- the calls of the units
 
 -- the same calls give the same constants
-constants_move : (CallsOf Others : ℕ → List Operand → Type 0) (u : ℕ) (constants : List (Option ℤ)) → ((operands : List Operand) → CallsOf u operands → Others u operands)
-    → ((operands : List Operand) → Others u operands → CallsOf u operands) → AreConstants CallsOf u constants → AreConstants Others u constants
+constants_move : (CallsOf Others : ℕ → CallSite → Type 0) (u : ℕ) (constants : List (Option ℤ)) → ((site : CallSite) → CallsOf u site → Others u site)
+    → ((site : CallSite) → Others u site → CallsOf u site) → AreConstants CallsOf u constants → AreConstants Others u constants
 constants_move CallsOf Others u constants forth back are i c = (
-  λ known. let always = (are i c).0 known in record { later = always.later; called = (always.called.0, forth always.called.0 always.called.1); each = λ operands call. always.each operands (back operands call) },
-  λ always. (are i c).1 (record { later = always.later; called = (always.called.0, back always.called.0 always.called.1); each = λ operands call. always.each operands (forth operands call) }),
+  λ known. let always = (are i c).0 known in record { later = always.later; some = (always.some.0, forth always.some.0 always.some.1, always.some.2); each = λ site call. always.each site (back site call) },
+  λ always. (are i c).1 (record { later = always.later; some = (always.some.0, back always.some.0 always.some.1, always.some.2); each = λ site call. always.each site (forth site call) }),
 )
 
 module _ (units : List UnitShape) (gs : List GraphShape) (fronts : AreFronts units gs) where
   -- a call of the graphs
-  call_forth : (u : ℕ) (operands : List Operand) → IsCallBefore gs (length gs) 0 u operands → IsCallOf units u operands
-  call_forth u operands call =
-      let lt = slice_get_within gs call.caller call.graph call.graph_at in
-      let unit = some_at units call.caller (omega (arith, lt, fronts.long)) in
-      let front = fronts.are call.caller unit.0 call.graph unit.1 call.graph_at in
+  call_forth : (u : ℕ) (site : CallSite) → IsCallBefore gs (length gs) 0 u site → IsCallOf units u site
+  call_forth u site call =
+      let lt = slice_get_within gs site.caller site.graph call.graph_at in
+      let unit = some_at units site.caller (omega (arith, lt, fronts.long)) in
+      let front = fronts.are site.caller unit.0 site.graph unit.1 call.graph_at in
       record {
-        caller = call.caller;
         unit = unit.0;
         lowered = front.0;
-        cleaned = call.graph;
         number = call.number;
         into = call.into;
         next = call.next;
@@ -98,22 +96,20 @@ module _ (units : List UnitShape) (gs : List GraphShape) (fronts : AreFronts uni
       }
 
   -- and of the units
-  call_back : (u : ℕ) (operands : List Operand) → IsCallOf units u operands → IsCallBefore gs (length gs) 0 u operands
-  call_back u operands call =
-      let low = slice_get_within units call.caller call.unit call.unit_at in
-      let lt : call.caller < length gs = omega (arith, low, fronts.long) in
-      let graph = some_at gs call.caller lt in
-      let front = fronts.are call.caller call.unit graph.0 call.unit_at graph.1 in
+  call_back : (u : ℕ) (site : CallSite) → IsCallOf units u site → IsCallBefore gs (length gs) 0 u site
+  call_back u site call =
+      let low = slice_get_within units site.caller call.unit call.unit_at in
+      let lt : site.caller < length gs = omega (arith, low, fronts.long) in
+      let graph = some_at gs site.caller lt in
+      let front = fronts.are site.caller call.unit graph.0 call.unit_at graph.1 in
       let lowered = lowered_is_one call.unit front.0 call.lowered front.1.is_lowered call.is_lowered in
-      let cleaned : graph.0 ≡ call.cleaned = clean_is_one front.0 graph.0 call.cleaned front.1.within front.1.is_cleaned (subst (λ g. IsClean g call.cleaned) (sym lowered) call.is_cleaned) in
+      let cleaned : graph.0 ≡ site.graph = clean_is_one front.0 graph.0 site.graph front.1.within front.1.is_cleaned (subst (λ g. IsClean g site.graph) (sym lowered) call.is_cleaned) in
       record {
-        caller = call.caller;
-        graph = graph.0;
         number = call.number;
         into = call.into;
         next = call.next;
-        graph_at = graph.1;
-        here = ap (λ (g : GraphShape). slice_get g.nodes call.number) cleaned ∙ call.here;
+        graph_at = graph.1 ∙ ap Some cleaned;
+        here = call.here;
         before = inl lt;
       }
 
@@ -172,23 +168,22 @@ module _ (source target : ProgramShape) (program : IsProgram source.globals sour
   own = graphs (Knowing source.units) (Begins source.units) source target program globals all
 
   -- a call of the graphs is one of the units
-  own_call : (u : ℕ) (operands : List Operand) → CallsIn own u operands → IsCallOf source.units u operands
-  own_call u operands call =
+  own_call : (u : ℕ) (site : CallSite) → CallsIn own u site → IsCallOf source.units u site
+  own_call u site call =
       let there = call.there in
-      let lt : call.caller < length source.units = omega (arith, there, graphs_count (Knowing source.units) (Begins source.units) source target program globals all) in
-      let a = at (Knowing source.units) (Begins source.units) source target program globals all call.caller lt in
+      let lt : site.caller < length source.units = omega (arith, there, graphs_count (Knowing source.units) (Begins source.units) source target program globals all) in
+      let a = at (Knowing source.units) (Begins source.units) source target program globals all site.caller lt in
+      let cleaned : site.graph ≡ a.made.cleaned = call.graph_is ∙ graph_is (Knowing source.units) (Begins source.units) source target program globals all site.caller lt in
       record {
-        caller = call.caller;
         unit = a.source;
         lowered = a.made.lowered;
-        cleaned = a.made.cleaned;
         number = call.number;
         into = call.into;
         next = call.next;
         unit_at = a.source_at;
         is_lowered = a.made.front.is_lowered;
-        is_cleaned = a.made.front.is_cleaned;
-        here = ap (λ (g : GraphShape). slice_get g.nodes call.number) (sym (graph_is (Knowing source.units) (Begins source.units) source target program globals all call.caller lt)) ∙ call.here;
+        is_cleaned = subst (IsClean a.made.lowered) (sym cleaned) a.made.front.is_cleaned;
+        here = call.here;
       }
 
   -- the target is the same, evaluates no more operators and is never deeper
@@ -201,6 +196,5 @@ module _ (source target : ProgramShape) (program : IsProgram source.globals sour
         nodes = b.nodes;
         shared = b.shared;
         received = b.received;
-        later = λ i c known. ((b.are i c).0 known).later;
-        given = λ i c known operands call. ((b.are i c).0 known).each operands (own_call u operands call);
+        given = λ i c known. let always = (b.are i c).0 known in record { later = always.later; each = λ site call. always.each site (own_call u site call) };
       }))

@@ -1,63 +1,38 @@
 -- One step of the loops: one argument more of a call that is noted, and one received variable more.
-use Rattle.std.proofs.Common.{◌≡◌, ◌↔◌, inl, inr, ℕ, ◌+◌, ◌<◌, List, [], ◌∷◌, ◌++◌, append_assoc, drop, length, map, slice_get, slice_index_or, slice_set, ℤ, Option, Some, None, refl, sym, ap, ◌∙◌, subst, arith}
+use Rattle.std.proofs.Common.{◌≡◌, inl, inr, ℕ, zero, suc, ◌+◌, ◌<◌, List, [], ◌∷◌, ◌++◌, append_assoc, drop, length, map, slice_get, slice_index_or, slice_set, ℤ, Option, Some, None, refl, sym, ap, ◌∙◌, subst, arith}
 use Rattle.std.proofs.lemmas.Bool.{cases_eq, cases_lt}
 use Rattle.std.proofs.lemmas.List.{drop_all, get_or_past, length-set}
 use Rattle.std.proofs.lemmas.Option.{slice_get-get_or, slice_get_within}
 use Rattle.mir_base.specs.declared.instructions.Operand.{Operand}
-use Rattle.mir_base.specs.declared.instructions.Operand.TheVariants.{Const}
+use Rattle.mir_base.specs.Shapes.{AllBelow}
 use Rattle.flow_graph.specs.ListLaws.{drop_at, set_elsewhere, set_here}
 use Rattle.graph_edit.specs.Insertions.{Insertion}
+use Rattle.constant_args.specs.declared.held.Held.{Held}
 use Rattle.constant_args.specs.ConstantArguments.{constant_put, constant_puts}
-use Rattle.constant_args.specs.Gathered.{Agree, constant_of}
+use Rattle.constant_args.specs.Gathered.{JoinsAll, JoinsAt, kept_var}
 use Rattle.constant_args.proofs.Constants.{puts_none}
 
--- ---- constants that agree
+-- ---- what a call gives
 
 -- one argument more
-pub agree_more : (i : ℕ) (operands : List Operand) (old now : List (Option ℤ)) (known left : Option ℤ) → slice_get now i ≡ Some known
-    → ((c : ℤ) → (left ≡ Some c) ↔ ((known ≡ Some c) × (slice_get operands i ≡ Some (Const c)))) → Agree i operands old now → Agree (i + 1) operands old (slice_set now i left)
-agree_more i operands old now known left at told agree = record {
-  long = length-set now i left ∙ agree.long;
-  agreed = λ j c low. elim (cases_eq j i) [
-    | inl same ↦ subst (λ k. (slice_get (slice_set now i left) k ≡ Some (Some c)) ↔ ((slice_get old k ≡ Some (Some c)) × (slice_get operands k ≡ Some (Const c)))) (sym same) (here c)
-    | inr apart ↦ subst (λ o. (o ≡ Some (Some c)) ↔ ((slice_get old j ≡ Some (Some c)) × (slice_get operands j ≡ Some (Const c)))) (sym (set_elsewhere now i j left apart)) (agree.agreed j c (below j low apart))
+pub join_more : (i : ℕ) (operands : List Operand) (kept : List (Option ℕ)) (old now : List Held) (held new : Held) → slice_get now i ≡ Some held
+    → JoinsAt operands kept i held new → JoinsAll i operands kept old now → JoinsAll (i + 1) operands kept old (slice_set now i new)
+join_more i operands kept old now held new at joins all = record {
+  long = length-set now i new ∙ all.long;
+  joined = λ j a b low at_a at_b. elim (cases_eq j i) [
+    | inl same ↦
+        let was : Some a ≡ Some held = sym at_a ∙ ap (slice_get old) same ∙ sym (all.others i (omega arith)) ∙ at in
+        let is : Some new ≡ Some b = sym (set_here now i new (slice_get_within now i held at)) ∙ ap (slice_get (slice_set now i new)) (sym same) ∙ at_b in
+        let one : held ≡ a = cc in
+        let other : new ≡ b = cc in
+        subst (λ k. JoinsAt operands kept k a b) (sym same) (subst (λ h. JoinsAt operands kept i h b) one (subst (JoinsAt operands kept i held) other joins))
+    | inr apart ↦ all.joined j a b (below j low apart) at_a (sym (set_elsewhere now i j new apart) ∙ at_b)
   ];
-  others = λ j high. set_elsewhere now i j left (λ same. omega (arith, same, high)) ∙ agree.others j (omega (arith, high));
+  others = λ j high. set_elsewhere now i j new (λ same. omega (arith, same, high)) ∙ all.others j (omega (arith, high));
 }
   where
     below : (j : ℕ) → j < i + 1 → (j ≡ i → ⊥) → j < i
     below j low apart = elim (cases_lt j i) [ inl lt ↦ lt | inr ge ↦ absurd (apart (omega (arith, low, ge))) ]
-
-    was : slice_get old i ≡ Some known
-    was = sym (agree.others i (omega arith)) ∙ at
-
-    is : slice_get (slice_set now i left) i ≡ Some left
-    is = set_here now i left (slice_get_within now i known at)
-
-    here : (c : ℤ) → (slice_get (slice_set now i left) i ≡ Some (Some c)) ↔ ((slice_get old i ≡ Some (Some c)) × (slice_get operands i ≡ Some (Const c)))
-    here c = (
-      λ e.
-          let both : Some left ≡ Some (Some c) = sym is ∙ e in
-          let one : left ≡ Some c = cc in
-          let parts = (told c).0 one in
-          (was ∙ ap Some parts.0, parts.1),
-      λ parts.
-          let both : Some known ≡ Some (Some c) = sym was ∙ parts.0 in
-          let one : known ≡ Some c = cc in
-          is ∙ ap Some ((told c).1 (one, parts.1)),
-    )
-
--- no argument yet
-pub agree_none : (operands : List Operand) (constants : List (Option ℤ)) → Agree 0 operands constants constants
-agree_none operands constants = record { long = refl; agreed = λ i c low. absurd (omega (arith, low)); others = λ i high. refl }
-
--- ---- constants of operands
-
--- one operand more
-pub constants_next : (now : List (Option ℤ)) (operands : List Operand) (i : ℕ) (operand : Operand) (all : List (Option ℤ)) → slice_get operands i ≡ Some operand
-    → now ++ map constant_of (drop i operands) ≡ all → (now ++ constant_of operand ∷ []) ++ map constant_of (drop (i + 1) operands) ≡ all
-constants_next now operands i operand all at is =
-    append_assoc now (constant_of operand ∷ []) (map constant_of (drop (i + 1) operands)) ∙ ap (λ l. now ++ map constant_of l) (sym (drop_at operands i operand at)) ∙ is
 
 -- ---- assignments
 
@@ -79,3 +54,17 @@ puts_more received constants i x now new all at is before =
     let put = constant_put x (slice_index_or constants i None) in
     let rest = constant_puts (drop (i + 1) received) (drop (i + 1) constants) in
     ap (λ l. l ++ rest) is ∙ append_assoc now put rest ∙ ap (λ l. now ++ l) (sym (puts_next received constants i x at)) ∙ before
+
+-- ---- variables that no node assigns
+
+-- an item of a list whose items are below a number
+pub below_at : (m : ℕ) (xs : List ℕ) (i x : ℕ) → AllBelow m xs → slice_get xs i ≡ Some x → x < m
+below_at m [] i x below at = cc
+below_at m (y ∷ xs) zero x below at = let same : y ≡ x = cc in subst (λ z. z < m) same below.0
+below_at m (y ∷ xs) (suc i) x below at = below_at m xs i x below.1 at
+
+-- one received variable more
+pub kept_more : (assigned received : List ℕ) (i x : ℕ) (now new all : List (Option ℕ)) → slice_get received i ≡ Some x → new ≡ now ++ kept_var assigned x ∷ []
+    → now ++ map (kept_var assigned) (drop i received) ≡ all → new ++ map (kept_var assigned) (drop (i + 1) received) ≡ all
+kept_more assigned received i x now new all at is before =
+    ap (λ l. l ++ map (kept_var assigned) (drop (i + 1) received)) is ∙ append_assoc now (kept_var assigned x ∷ []) (map (kept_var assigned) (drop (i + 1) received)) ∙ ap (λ l. now ++ map (kept_var assigned) l) (sym (drop_at received i x at)) ∙ before

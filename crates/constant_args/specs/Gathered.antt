@@ -1,5 +1,5 @@
 -- What the calls of a program give, as it is gathered. Cited by contracts of private functions.
-use Rattle.std.specs.Prelude.{◌≡◌, ◌⊎◌, ◌↔◌, ℕ, ◌<◌, ◌≤◌, true, false, List, [], ◌++◌, length, map, slice_get, ℤ, Option, Some, None}
+use Rattle.std.specs.Prelude.{◌≡◌, ◌⊎◌, ◌↔◌, ℕ, ◌<◌, ◌≤◌, true, false, if◌then◌else◌, nat_eq, List, [], ◌∷◌, ◌++◌, flat_map, length, map, replicate, slice_get, ℤ, Option, Some, None}
 use Rattle.mir_base.specs.declared.instructions.Operand.{Operand}
 use Rattle.mir_base.specs.declared.instructions.Operand.TheVariants.{Var, Const}
 use Rattle.mir_base.specs.Shapes.{UnitShape}
@@ -9,10 +9,13 @@ use Rattle.flow_graph.specs.declared.nodes.Node.TheVariants.{Call}
 use Rattle.flow_graph.specs.Calls.{CallsAmong, NodesCall}
 use Rattle.flow_graph.specs.Graphs.{GraphShape}
 use Rattle.flow_graph.specs.Machines.{graph_machine, machine_of}
+use Rattle.flow_graph.specs.Numbering.{is_in}
 use Rattle.flow_graph.specs.Retained.{IsMade}
 use Rattle.program_pass.specs.PassPrograms.{AllPassed, LoweredClean, PassedAt}
 use Rattle.constant_args.specs.declared.given.Given.{Given}
-use Rattle.constant_args.specs.ConstantArguments.{AreConstants, Begins, Knowing, begun, constant_puts}
+use Rattle.constant_args.specs.declared.held.Held.{Held}
+use Rattle.constant_args.specs.declared.held.Held.TheVariants.{Open, Always, Varies}
+use Rattle.constant_args.specs.ConstantArguments.{AreConstants, Begins, CallSite, GivesConstant, Knowing, PassesOn, assigned_var, begun, constant_puts}
 
 -- ---- the graphs
 
@@ -33,73 +36,123 @@ pub record CallsExist (graphs : List GraphShape) : Type 0 where
   pub calls : (w : ℕ) (graph : GraphShape) (n : ℕ) (node : Node) → slice_get graphs w ≡ Some graph
       → slice_get graph.nodes n ≡ Some node → CallIsWithin node (length graphs)
 
--- before node n of graph w a node calls unit u with these operands
-pub record IsCallBefore (graphs : List GraphShape) (w n u : ℕ) (operands : List Operand)
-    : Type 0 where
-  pub caller : ℕ
-  pub graph : GraphShape
+-- before node n of graph w a node calls unit u like this
+pub record IsCallBefore (graphs : List GraphShape) (w n u : ℕ) (site : CallSite) : Type 0 where
   pub number : ℕ
   pub into : Option ℕ
   pub next : ℕ
-  pub graph_at : slice_get graphs caller ≡ Some graph
-  pub here : slice_get graph.nodes number ≡ Some (Call into u operands next)
-  pub before : (caller < w) ⊎ ((caller ≡ w) × (number < n))
+  pub graph_at : slice_get graphs site.caller ≡ Some site.graph
+  pub here : slice_get site.graph.nodes number ≡ Some (Call into u site.operands next)
+  pub before : (site.caller < w) ⊎ ((site.caller ≡ w) × (number < n))
+
+-- ---- variables that are passed on
+
+-- the variable, where it is none of the assigned ones
+abbrev pub kept_var : List ℕ → ℕ → Option ℕ
+kept_var assigned x = if is_in x assigned then None else Some x
+
+-- each received variable that no node assigns, at the number of its argument
+abbrev pub kept_vars : GraphShape → List (Option ℕ)
+kept_vars graph = map (kept_var (flat_map assigned_var graph.nodes)) graph.received
+
+-- those that unit w passes on to the unit that it calls
+abbrev pub passed_to : ℕ → ℕ → List (Option ℕ) → List (Option ℕ)
+passed_to called w kept = if nat_eq called w then kept else []
+
+-- operand i is the variable that passes argument i on
+pub record IsPassed (operands : List Operand) (kept : List (Option ℕ)) (i : ℕ) : Type 0 where
+  pub variable : ℕ
+  pub is_kept : slice_get kept i ≡ Some (Some variable)
+  pub operand : slice_get operands i ≡ Some (Var variable)
 
 -- ---- one call
 
--- the operand, where it is a constant
-abbrev pub constant_of : Operand → Option ℤ
-constant_of (Var x) = None
-constant_of (Const c) = Some c
+-- the constant that an argument always is, where there is one
+abbrev pub constant_held : Held → Option ℤ
+constant_held Open = None
+constant_held (Always c) = Some c
+constant_held Varies = None
 
--- of the first so many constants those are left that the operands give too
-pub record Agree (count : ℕ) (operands : List Operand) (old new : List (Option ℤ)) : Type 0 where
+-- what an operand makes of what is held: a constant, where it gives this constant, and nothing else was held
+pub record Joins (held : Held) (operand : Option Operand) (new : Held) : Type 0 where
+  pub closed : new ≡ Open → ⊥
+  pub gives : (c : ℤ) → (new ≡ Always c)
+      ↔ ((operand ≡ Some (Const c)) × ((held ≡ Open) ⊎ (held ≡ Always c)))
+
+-- what operand i makes of what is held, unless it passes the argument on
+pub record JoinsAt (operands : List Operand) (kept : List (Option ℕ)) (i : ℕ) (held new : Held)
+    : Type 0 where
+  pub passed : IsPassed operands kept i → new ≡ held
+  pub joined : (IsPassed operands kept i → ⊥) → Joins held (slice_get operands i) new
+
+-- so of the first so many arguments
+pub record JoinsAll (count : ℕ) (operands : List Operand) (kept : List (Option ℕ))
+    (old new : List Held) : Type 0 where
   pub long : length new ≡ length old
-  pub agreed : (i : ℕ) (c : ℤ) → i < count → (slice_get new i ≡ Some (Some c))
-      ↔ ((slice_get old i ≡ Some (Some c)) × (slice_get operands i ≡ Some (Const c)))
+  pub joined : (i : ℕ) (a b : Held) → i < count → slice_get old i ≡ Some a
+      → slice_get new i ≡ Some b → JoinsAt operands kept i a b
   pub others : (i : ℕ) → count ≤ i → slice_get new i ≡ slice_get old i
 
--- a call is noted: of the first one all constants, and of a later one those that it gives too
-pub record NotesCall (operands : List Operand) (old new : Given) : Type 0 where
-  pub called : new.called ≡ true
-  pub first : old.called ≡ false
-      → new.constants.items ≡ old.constants.items ++ map constant_of operands
-  pub later : old.called ≡ true
-      → Agree (length old.constants.items) operands old.constants.items new.constants.items
+-- what is held before a call: nothing of any argument, where it is the first
+abbrev pub opened_helds : Given → List Operand → List Held
+opened_helds given operands =
+    if given.called then given.arguments.items
+    else given.arguments.items ++ replicate (length operands) Open
 
--- the call of this node is noted at its unit, where it is one; the other units stay
-pub record NotesNode (node : Node) (old new : List Given) : Type 0 where
+-- a call is noted
+pub record NotesCall (operands : List Operand) (kept : List (Option ℕ)) (old new : Given)
+    : Type 0 where
+  pub called : new.called ≡ true
+  pub joins : JoinsAll (length (opened_helds old operands)) operands kept
+      (opened_helds old operands) new.arguments.items
+
+-- the call of this node of unit w is noted at its unit, where it is one; the other units stay
+pub record NotesNode (node : Node) (w : ℕ) (kept : List (Option ℕ)) (old new : List Given)
+    : Type 0 where
   pub long : length new ≡ length old
   pub noted : (into : Option ℕ) (v : ℕ) (operands : List Operand) (next : ℕ) (a b : Given)
       → node ≡ Call into v operands next → slice_get old v ≡ Some a → slice_get new v ≡ Some b
-      → NotesCall operands a b
+      → NotesCall operands (passed_to v w kept) a b
   pub others : (u : ℕ) → ((into : Option ℕ) (operands : List Operand) (next : ℕ)
       → node ≡ Call into u operands next → ⊥)
       → slice_get new u ≡ slice_get old u
 
 -- ---- many calls
 
--- this is what these calls of one unit give
-pub record IsGivenBy (IsCall : List Operand → Type 0) (given : Given) : Type 0 where
+-- each of these calls gives the constant as argument i, or passes the argument on
+abbrev pub EachGives : (CallSite → Type 0) → ℕ → ℕ → ℤ → Type 0
+EachGives IsCall u i c = (site : CallSite) → IsCall site
+    → GivesConstant site i c ⊎ PassesOn u i site
+
+-- what these calls of unit u give argument i, where something is held of it
+pub record IsHeldBy (IsCall : CallSite → Type 0) (u i : ℕ) (held : Option Held) : Type 0 where
+  pub open_each : held ≡ Some Open → (site : CallSite) → IsCall site → PassesOn u i site
+  pub always_some : (c : ℤ) → held ≡ Some (Always c)
+      → (site : CallSite) × IsCall site × GivesConstant site i c
+  pub always_each : (c : ℤ) → held ≡ Some (Always c) → EachGives IsCall u i c
+  pub varies : (held ≡ Some Open → ⊥) → ((c : ℤ) → held ≡ Some (Always c) → ⊥)
+      → (c : ℤ) → EachGives IsCall u i c → ⊥
+
+-- what these calls of unit u give it
+pub record IsGivenBy (IsCall : CallSite → Type 0) (u : ℕ) (given : Given) : Type 0 where
   pub uncalled : given.called ≡ false
-      → (given.constants.items ≡ []) × ((operands : List Operand) → IsCall operands → ⊥)
-  pub called : given.called ≡ true → (operands : List Operand) × IsCall operands
-  pub constants : given.called ≡ true → (i : ℕ) (c : ℤ)
-      → (slice_get given.constants.items i ≡ Some (Some c))
-      ↔ ((operands : List Operand) → IsCall operands → slice_get operands i ≡ Some (Const c))
+      → (given.arguments.items ≡ []) × ((site : CallSite) → IsCall site → ⊥)
+  pub called : given.called ≡ true
+      → (i : ℕ) → IsHeldBy IsCall u i (slice_get given.arguments.items i)
 
 -- for each unit, what the calls before node n of graph w give
 pub record AreGivenBefore (graphs : List GraphShape) (w n : ℕ) (givens : List Given)
     : Type 0 where
   pub long : length givens ≡ length graphs
   pub each : (u : ℕ) (given : Given) → slice_get givens u ≡ Some given
-      → IsGivenBy (IsCallBefore graphs w n u) given
+      → IsGivenBy (IsCallBefore graphs w n u) u given
 
 -- for each unit, the constants that its arguments always are
 pub record AreAllConstants (graphs : List GraphShape) (givens : List Given) : Type 0 where
   pub long : length givens ≡ length graphs
   pub each : (u : ℕ) (given : Given) → slice_get givens u ≡ Some given
-      → AreConstants (IsCallBefore graphs (length graphs) 0) u given.constants.items
+      → AreConstants (IsCallBefore graphs (length graphs) 0) u
+      (map constant_held given.arguments.items)
 
 -- ---- what is made of a graph
 

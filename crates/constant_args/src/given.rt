@@ -1,8 +1,10 @@
 // What the calls of a unit give it.
-ghost use Rattle.std.specs.Prelude.{◌≡◌, ◌++◌, ◌+◌, ◌↔◌, ◌<◌, [], ℤ, false, length, map, replicate, slice_get, IfOk, OnOk, IsTrue, Some};
-ghost use Rattle.mir_base.specs.declared.instructions.Operand.TheVariants.{Const};
-ghost use Rattle.constant_args.specs.Gathered.{Agree, AreAllConstants, AreGivenBefore, CallIsWithin, CallsExist, NotesCall, NotesNode, constant_of};
+ghost use Rattle.std.specs.Prelude.{◌≡◌, ◌++◌, ◌+◌, ◌<◌, [], false, length, nat_eq, replicate, if◌then◌else◌, IfOk, OnOk};
+ghost use Rattle.constant_args.specs.declared.held.Held.TheVariants.{Open};
+ghost use Rattle.constant_args.specs.Gathered.{AreAllConstants, AreGivenBefore, CallIsWithin, CallsExist, JoinsAll, NotesCall, NotesNode, kept_vars};
 
+use crate::held::{Held, joined_at};
+use crate::kept::kept_vars;
 use flow_graph::{Graph, Node};
 use mir_base::{Memory, Operand};
 use std::alloc::Global;
@@ -12,38 +14,36 @@ use std::alloc::Global;
 pub(crate) struct Given {
     /// Whether there is one.
     called: bool,
-    /// For each argument the constant that all of them give, where there is one; empty before the first call.
-    pub(crate) constants: Vec<Option<i64>>,
+    /// What they give each argument; empty before the first call.
+    pub(crate) arguments: Vec<Held>,
 }
 
 impl Given {
     /// Nothing.
     fn none(alloc: Global) -> Given
         ensures uncalled { result.called ≡ false }
-        ensures empty { result.constants.items ≡ [] }
+        ensures empty { result.arguments.items ≡ [] }
     {
         Given {
             called: false,
-            constants: Vec::new(alloc),
+            arguments: Vec::new(alloc),
         }
     }
 
-    /// Notes a call with these operands.
-    fn note(&mut self, operands: &[Operand]) -> Result<(), Memory>
-        ensures { OnOk result (NotesCall operands.now self.old self.new) }
+    /// Notes a call with these operands, which passes on these variables.
+    fn note(&mut self, operands: &[Operand], kept: &[Option<usize>]) -> Result<(), Memory>
+        ensures { OnOk result (NotesCall operands.now kept.now self.old self.new) }
     {
-        if self.called {
-            agree(&mut self.constants, operands);
-            Ok(())
-        } else {
-            push_constants(&mut self.constants, operands)?;
+        if !self.called {
+            open_arguments(&mut self.arguments, operands.len())?;
             self.called = true;
-            Ok(())
         }
+        join(&mut self.arguments, operands, kept);
+        Ok(())
     }
 }
 
-/// For each unit the constants that its arguments always are. It fails only with `Memory`.
+/// For each unit what its arguments always are. It fails only with `Memory`.
 pub(crate) fn givens_of(alloc: Global, graphs: &Vec<Graph>) -> Result<Vec<Given>, Memory>
     requires { CallsExist graphs.now.items }
     ensures { IfOk result (λ givens. AreAllConstants graphs.now.items givens.items) }
@@ -61,7 +61,7 @@ fn all_given(alloc: Global, graphs: &Vec<Graph>) -> Result<Vec<Given>, Memory>
 {
     let mut givens = no_givens(alloc, graphs)?;
     for unit in 0..graphs.len() {
-        note_calls(graphs, unit, &mut givens)?;
+        note_calls(alloc, graphs, unit, &mut givens)?;
     }
     Ok(givens)
 }
@@ -79,89 +79,71 @@ fn no_givens(alloc: Global, graphs: &Vec<Graph>) -> Result<Vec<Given>, Memory>
 }
 
 /// Notes the calls of the graph of this unit.
-fn note_calls(graphs: &Vec<Graph>, unit: usize, givens: &mut Vec<Given>) -> Result<(), Memory>
+fn note_calls(
+    alloc: Global,
+    graphs: &Vec<Graph>,
+    unit: usize,
+    givens: &mut Vec<Given>,
+) -> Result<(), Memory>
     requires exist { CallsExist graphs.now.items }
     requires there { unit < length graphs.now.items }
     requires given { AreGivenBefore graphs.now.items unit 0 givens.old.items }
     ensures { OnOk result (AreGivenBefore graphs.now.items (unit + 1) 0 givens.new.items) }
 {
     let graph = &graphs[unit];
+    let kept = kept_vars(alloc, graph)?;
     for n in 0..graph.len() {
-        note_node(graph.node(n), givens)?;
+        note_node(graph.node(n), unit, kept.as_slice(), givens)?;
     }
     Ok(())
 }
 
-/// Notes the call of a node, where it is one.
-fn note_node(node: &Node, givens: &mut Vec<Given>) -> Result<(), Memory>
+/// Notes the call of a node of this unit, where it is one. The unit passes on these variables to itself.
+fn note_node(
+    node: &Node,
+    unit: usize,
+    kept: &[Option<usize>],
+    givens: &mut Vec<Given>,
+) -> Result<(), Memory>
     requires { CallIsWithin node.now (length givens.old.items) }
-    ensures { OnOk result (NotesNode node.now givens.old.items givens.new.items) }
+    ensures { OnOk result (NotesNode node.now unit kept.now givens.old.items givens.new.items) }
 {
     match node {
         Node::Call(_, called, operands, _) => {
-            givens[*called].note(operands.items())?;
+            let passed = passed_to(*called, unit, kept);
+            givens[*called].note(operands.items(), passed)?;
             Ok(())
         }
         _ => Ok(()),
     }
 }
 
-/// Adds what the operands are where they are constants.
-fn push_constants(constants: &mut Vec<Option<i64>>, operands: &[Operand]) -> Result<(), Memory>
-    ensures { OnOk result (constants.new.items ≡
-        constants.old.items ++ map constant_of operands.now) }
+/// The variables that a unit passes on to the one that it calls: these to itself, and none to another.
+fn passed_to<'a>(called: usize, unit: usize, kept: &'a [Option<usize>]) -> &'a [Option<usize>]
+    ensures { result.now ≡ (if nat_eq called unit then kept.now else []) }
 {
-    for operand in operands {
-        constants.push(constant_of(operand))?;
+    if called == unit { kept } else { &kept[..0] }
+}
+
+/// Adds so many arguments of which nothing is known.
+fn open_arguments(arguments: &mut Vec<Held>, count: usize) -> Result<(), Memory>
+    ensures { OnOk result
+        (arguments.new.items ≡ arguments.old.items ++ replicate count Open) }
+{
+    for opened in 0..count {
+        let _ = opened;
+        arguments.push(Held::Open)?;
     }
     Ok(())
 }
 
-/// The operand, where it is a constant.
-fn constant_of(operand: &Operand) -> Option<i64>
-    ensures { result ≡ constant_of operand.now }
+/// Joins what a call with these operands, which passes on these variables, gives each argument.
+fn join(arguments: &mut Vec<Held>, operands: &[Operand], kept: &[Option<usize>])
+    ensures { JoinsAll (length arguments.old.items) operands.now kept.now
+        arguments.old.items arguments.new.items }
 {
-    match operand {
-        Operand::Var(_) => None,
-        Operand::Const(constant) => Some(*constant),
-    }
-}
-
-/// Leaves the constants that the operands give too.
-fn agree(constants: &mut Vec<Option<i64>>, operands: &[Operand])
-    ensures { Agree (length constants.old.items) operands.now
-        constants.old.items constants.new.items }
-{
-    for i in 0..constants.len() {
-        let left = agreed(constants[i], operands, i);
-        constants[i] = left;
-    }
-}
-
-/// The constant, where operand `i` gives it too.
-fn agreed(known: Option<i64>, operands: &[Operand], i: usize) -> Option<i64>
-    ensures { (c : ℤ) → (result ≡ Some c)
-        ↔ ((known ≡ Some c) × (slice_get operands.now i ≡ Some (Const c))) }
-{
-    match known {
-        None => None,
-        Some(constant) => {
-            if gives(operands, i, constant) {
-                Some(constant)
-            } else {
-                None
-            }
-        }
-    }
-}
-
-/// Whether operand `i` is this constant.
-fn gives(operands: &[Operand], i: usize, constant: i64) -> bool
-    ensures { IsTrue result ↔ (slice_get operands.now i ≡ Some (Const constant)) }
-{
-    match operands.get(i) {
-        None => false,
-        Some(Operand::Var(_)) => false,
-        Some(Operand::Const(other)) => *other == constant,
+    for i in 0..arguments.len() {
+        let held = joined_at(arguments[i], operands, kept, i);
+        arguments[i] = held;
     }
 }

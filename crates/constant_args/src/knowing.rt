@@ -1,53 +1,54 @@
 // The graph of a unit that knows the constants of its arguments.
-ghost use Rattle.std.specs.Prelude.{◌≡◌, ◌<◌, ◌++◌, ◌∷◌, [], length, slice_index_or, slice_set, IfOk, None, OnOk};
+ghost use Rattle.std.specs.Prelude.{◌≡◌, ◌<◌, ◌++◌, ◌∷◌, [], length, map, slice_index_or, slice_set, IfOk, None, OnOk};
 ghost use Rattle.flow_graph.specs.declared.nodes.Node.TheVariants.{Skip, Start};
 ghost use Rattle.program_pass.specs.Puts.{insertions};
 ghost use Rattle.constant_args.specs.ConstantArguments.{begun, constant_put, constant_puts};
-ghost use Rattle.constant_args.specs.Gathered.{KnowsMade};
+ghost use Rattle.constant_args.specs.Gathered.{KnowsMade, constant_held};
 
+use crate::held::{Held, constant_held};
 use flow_graph::{Graph, Node};
 use mir_base::{Memory, Operand};
 use program_pass::{Put, copied_nodes, plain_put, stand, start_succ};
 use std::alloc::Global;
 
-/// The graph with these constants assigned, behind Start, to the variables that receive the arguments. It fails only
-/// with `Memory`.
+/// The graph with the constants that its arguments always are assigned, behind Start, to the variables that receive
+/// them. It fails only with `Memory`.
 pub(crate) fn knowing(
     alloc: Global,
     graph: &Graph,
-    constants: &[Option<i64>],
+    arguments: &[Held],
 ) -> Result<Graph, Memory>
-    ensures { IfOk result (KnowsMade graph.now constants.now) }
+    ensures { IfOk result (KnowsMade graph.now (map constant_held arguments.now)) }
 {
     let _nodes = graph.nodes();
-    let puts = constant_puts(alloc, graph.received(), constants)?;
+    let puts = constant_puts(alloc, graph.received(), arguments)?;
     let nodes = begun(alloc, graph, puts.as_slice())?;
     let known = graph.with_nodes(alloc, nodes)?;
     Ok(known)
 }
 
-/// The assignments of the constants to the variables that receive the arguments of their numbers.
+/// The assignments of the constants that arguments always are to the variables that receive them.
 fn constant_puts(
     alloc: Global,
     received: &[usize],
-    constants: &[Option<i64>],
+    arguments: &[Held],
 ) -> Result<Vec<Put>, Memory>
-    ensures { IfOk result (λ puts.
-        insertions puts.items ≡ constant_puts received.now constants.now) }
+    ensures { IfOk result (λ puts. insertions puts.items
+        ≡ constant_puts received.now (map constant_held arguments.now)) }
 {
     let mut puts = Vec::new(alloc);
     for i in 0..received.len() {
-        push_put(&mut puts, received[i], constant_at(constants, i))?;
+        push_put(&mut puts, received[i], constant_at(arguments, i))?;
     }
     Ok(puts)
 }
 
-/// The constant of this number, where there is one.
-fn constant_at(constants: &[Option<i64>], i: usize) -> Option<i64>
-    ensures { result ≡ slice_index_or constants.now i None }
+/// The constant that argument `i` always is, where there is one.
+fn constant_at(arguments: &[Held], i: usize) -> Option<i64>
+    ensures { result ≡ slice_index_or (map constant_held arguments.now) i None }
 {
-    match constants.get(i) {
-        Some(constant) => *constant,
+    match arguments.get(i) {
+        Some(held) => constant_held(*held),
         None => None,
     }
 }

@@ -8,6 +8,8 @@
 
 mod given;
 mod graphs;
+mod held;
+mod kept;
 mod knowing;
 mod programs;
 

@@ -63,7 +63,7 @@ fn knowing_unit(
     ensures { IfOk result (KnowingUnit program.now.units number) }
 {
     let graph = &graphs[number];
-    let known = knowing(alloc, graph, givens[number].constants.as_slice())?;
+    let known = knowing(alloc, graph, givens[number].arguments.as_slice())?;
     let target = laid_out(alloc, &known)?;
     Ok(target)
 }

@@ -5,5 +5,5 @@ use Rattle.constant_args.proofs.given.no_givens.Given as goal
 abbrev pub invariant-loop-made : goal.invariant-loop-made
 invariant-loop-made l = record {
   long : length l.givens.items ≡ l.made;
-  none : (u : ℕ) (given : Given) → slice_get l.givens.items u ≡ Some given → (given.called ≡ false) × (given.constants.items ≡ []);
+  none : (u : ℕ) (given : Given) → slice_get l.givens.items u ≡ Some given → (given.called ≡ false) × (given.arguments.items ≡ []);
 }

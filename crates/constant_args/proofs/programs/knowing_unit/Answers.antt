@@ -1,6 +1,6 @@
-use Rattle.std.proofs.Common.{◌≡◌, ◌<◌, ◌∙◌, Some, length, slice_get, ap, sym, subst, arith}
+use Rattle.std.proofs.Common.{◌≡◌, ◌<◌, ◌∙◌, Some, length, map, slice_get, ap, sym, subst, arith}
 use Rattle.std.proofs.lemmas.Option.{slice_get-get_or}
-use Rattle.constant_args.specs.Gathered.{KnowsMade}
+use Rattle.constant_args.specs.Gathered.{KnowsMade, constant_held}
 use Rattle.constant_args.proofs.Made.{knowing_unit}
 use Rattle.constant_args.proofs.programs.knowing_unit.Goals as goal
 
@@ -13,7 +13,7 @@ returns c =
     let low : c.args.number < length graphs = omega (arith, c.requires.number, c.requires.fronts.long) in
     let at : slice_get graphs c.args.number ≡ Some graph = slice_get-get_or graphs c.args.number graph low ∙ ap Some (sym c.index-graph.ensures) in
     let given_at : slice_get givens c.args.number ≡ Some given = slice_get-get_or givens c.args.number given (omega (arith, low, c.requires.constants.long)) ∙ ap Some (sym c.index.ensures) in
-    knowing_unit c.args.program.now.units graphs c.requires.fronts c.args.number graph c.in_ok-known.known given.constants.items c.in_ok-target.target at
+    knowing_unit c.args.program.now.units graphs c.requires.fronts c.args.number graph c.in_ok-known.known (map constant_held given.arguments.items) c.in_ok-target.target at
     (c.requires.constants.each c.args.number given given_at)
-    (subst (λ l. KnowsMade graph l c.in_ok-known.known) c.as_slice.ensures.value c.in_ok-known.ensures)
+    (subst (λ l. KnowsMade graph (map constant_held l) c.in_ok-known.known) c.as_slice.ensures.value c.in_ok-known.ensures)
     c.in_ok-target.ensures
