@@ -1,0 +1,5 @@
+pub mod Extensions
+pub mod Extended
+pub mod ExtendedLaws
+pub mod ByRows
+pub mod RunSteps
