@@ -1,7 +1,7 @@
 -- Law: the program of the graphs that know their arguments goes step by step with the program of the graphs. Frames
 -- stand at one place with equal values, and each frame of a unit has the constants that its arguments always are. So
 -- what is assigned behind Start changes nothing.
-use Rattle.std.proofs.Common.{◌≡◌, ◌⊎◌, ℕ, zero, suc, ◌+◌, ◌<◌, ◌≤◌, Bool, true, false, cond, ◌||◌, if◌then◌else◌, nat_eq, inl, inr, List, [], ◌∷◌, ◌++◌, flat_map, length, map, slice_get, slice_index_or, ℤ, pos, Option, Some, None, option_map, refl, sym, ap, ◌∙◌, subst, arith, le_refl}
+use Rattle.std.proofs.Common.{◌≡◌, ◌⊎◌, ℕ, zero, suc, ◌+◌, ◌<◌, ◌≤◌, Bool, true, false, cond, ◌||◌, nat_eq, inl, inr, List, [], ◌∷◌, ◌++◌, flat_map, length, map, slice_get, slice_index_or, ℤ, pos, Option, Some, None, option_map, refl, sym, ap, ◌∙◌, subst, arith, le_refl}
 use Rattle.std.proofs.lemmas.Bool.{cases_eq}
 use Rattle.std.proofs.lemmas.Option.{get_or_from_slice_get, slice_get-map, slice_get_within}
 use Rattle.mir_base.specs.declared.instructions.Operand.{Operand}
@@ -33,8 +33,8 @@ use Rattle.mir_sim.specs.StackSimulations.{Abreast, MeetsAgain, Stack, StepsLead
 use Rattle.program_pass.specs.ChainLaws.{gone_on}
 use Rattle.program_pass.specs.GraphPrograms.{IsGraphProgram, graph_numbered, graph_machines, shared_in}
 use Rattle.program_pass.specs.GraphProgramLaws.{Agree, Together, node_together, onward_agree, resumed_agree}
-use Rattle.constant_args.specs.ConstantArguments.{CallSite, GivesConstant, IsKept, PassesOn, assigned_var, begun, constant_puts}
-use Rattle.constant_args.proofs.Begun.{begun_kept, begun_leads}
+use Rattle.constant_args.specs.ConstantArguments.{CallSite, GivesConstant, IsNeverAssigned, PassesOn, assigned_var, put_behind_start, constant_puts}
+use Rattle.constant_args.proofs.BehindStart.{behind_start_kept, behind_start_leads}
 use Rattle.constant_args.proofs.Constants.{puts_change_none, puts_plain, received_value}
 
 -- a node of the graph of a unit calls unit u like this
@@ -54,7 +54,7 @@ pub record AlwaysIs (graphs : List GraphShape) (u i : ℕ) (c : ℤ) : Type 0 wh
 -- the second graph is the first with constants assigned behind Start that the arguments of the unit u always are
 pub record Knows (graphs : List GraphShape) (u : ℕ) (graph middle : GraphShape) : Type 0 where
   pub constants : List (Option ℤ)
-  pub nodes : middle.nodes ≡ begun graph.nodes (constant_puts graph.received constants)
+  pub nodes : middle.nodes ≡ put_behind_start graph.nodes (constant_puts graph.received constants)
   pub shared : middle.shared ≡ graph.shared
   pub received : middle.received ≡ graph.received
   pub given : (i : ℕ) (c : ℤ) → slice_get constants i ≡ Some (Some c) → AlwaysIs graphs u i c
@@ -71,7 +71,7 @@ not_in_either x (y ∷ xs) ys out = go (nat_eq y x) refl out (not_in_either x xs
     go false e none rest = rest none
 
 -- a node does not assign it
-kept_at : (nodes : List Node) (n : ℕ) (node : Node) (x : ℕ) → slice_get nodes n ≡ Some node → IsKept nodes x → is_in x (assigned_var node) ≡ false
+kept_at : (nodes : List Node) (n : ℕ) (node : Node) (x : ℕ) → slice_get nodes n ≡ Some node → IsNeverAssigned nodes x → is_in x (assigned_var node) ≡ false
 kept_at [] n node x at kept = cc
 kept_at (m ∷ nodes) zero node x at kept =
     let same : m ≡ node = cc in
@@ -79,6 +79,7 @@ kept_at (m ∷ nodes) zero node x at kept =
 kept_at (m ∷ nodes) (suc n) node x at kept = kept_at nodes n node x at (not_in_either x (assigned_var m) (flat_map assigned_var nodes) kept).1
 
 module _ (graphs middles : List GraphShape) (program : IsGraphProgram graphs) (knows : (u : ℕ) → u < length graphs → Knows graphs u (graph_numbered graphs u) (graph_numbered middles u)) where
+  -- what the units of the two sides do
   abbrev codes : ℕ → Code
   codes = codes_in (graph_machines graphs)
 
@@ -91,11 +92,11 @@ module _ (graphs middles : List GraphShape) (program : IsGraphProgram graphs) (k
 
   -- so have the variables that received them, and that no node assigns
   abbrev KeepConstants : ℕ → Values → Type 0
-  KeepConstants u values = (i x : ℕ) (c : ℤ) → slice_get (graph_numbered graphs u).received i ≡ Some x → AlwaysIs graphs u i c → IsKept (graph_numbered graphs u).nodes x → values x ≡ wrapped c
+  KeepConstants u values = (i x : ℕ) (c : ℤ) → slice_get (graph_numbered graphs u).received i ≡ Some x → AlwaysIs graphs u i c → IsNeverAssigned (graph_numbered graphs u).nodes x → values x ≡ wrapped c
 
   -- the result of a call goes to none of these
   abbrev IsFree : ℕ → Option ℕ → Type 0
-  IsFree u into = (x : ℕ) → into ≡ Some x → IsKept (graph_numbered graphs u).nodes x → ⊥
+  IsFree u into = (x : ℕ) → into ≡ Some x → IsNeverAssigned (graph_numbered graphs u).nodes x → ⊥
 
   -- a unit that is there may be entered with these arguments
   abbrev MayEnter : ℕ → List ℤ → Type 0
@@ -155,6 +156,7 @@ module _ (graphs middles : List GraphShape) (program : IsGraphProgram graphs) (k
     stays : (to : ℕ) → Keeps u f.arguments (at to f)
     stays to = record { arguments_are = refl; constants = keeps }
 
+    -- an assignment is of no variable that is never assigned
     assign_keeps : (x : ℕ) (rhs : Rhs) (next : ℕ) → slice_get (graph_numbered graphs u).nodes n ≡ Some (Assign x rhs next) → StepKeeps u f.arguments (assign_transition x rhs next f)
     assign_keeps x rhs next here =
         let value = rhs_value f.values rhs in
@@ -165,6 +167,7 @@ module _ (graphs middles : List GraphShape) (program : IsGraphProgram graphs) (k
         } in
         rw (assign_is x rhs next f) (elim (rhs_traps f.values rhs) as (λ t. StepKeeps u f.arguments (cond t (Traps ZeroDivisor 1) (Continues (rhs_count rhs) there))) [ true ↦ tt | false ↦ goes_on ])
 
+    -- a guard changes no value
     guard_keeps : (test : tests.Test) (number next : ℕ) → StepKeeps u f.arguments (guard_transition test number next f)
     guard_keeps test number next =
         elim (test_holds f.values test) as (λ t. StepKeeps u f.arguments (cond t (Traps (Raised number) 0) (Continues 0 (at next f)))) [ true ↦ tt | false ↦ stays next ]
@@ -321,7 +324,7 @@ module _ (graphs middles : List GraphShape) (program : IsGraphProgram graphs) (k
     puts = constant_puts graph.received (knows u lt).constants
 
     -- what the second side does
-    code_is : codes' u g ≡ graph_code graph.shared graph.received (begun graph.nodes puts) g
+    code_is : codes' u g ≡ graph_code graph.shared graph.received (put_behind_start graph.nodes puts) g
     code_is =
         let k = knows u lt in
         ap (λ n. graph_code n middle.received middle.nodes g) k.shared ∙ ap (λ r. graph_code graph.shared r middle.nodes g) k.received ∙ ap (λ l. graph_code graph.shared graph.received l g) k.nodes
@@ -345,7 +348,7 @@ module _ (graphs middles : List GraphShape) (program : IsGraphProgram graphs) (k
         let t = node_transition graph.shared graph.received (Some node) f in
         let t' = node_transition graph.shared graph.received (Some node) g in
         let is : codes u f ≡ t = ap (λ o. node_transition graph.shared graph.received o f) here in
-        let kept : slice_get (begun graph.nodes puts) g.place ≡ Some node = ap (slice_get (begun graph.nodes puts)) in_unit.agree.place ∙ begun_kept graph.vars graph.received graph.nodes can puts f.place apart in_unit.agree.within ∙ here in
+        let kept : slice_get (put_behind_start graph.nodes puts) g.place ≡ Some node = ap (slice_get (put_behind_start graph.nodes puts)) in_unit.agree.place ∙ behind_start_kept graph.vars graph.received graph.nodes can puts f.place apart in_unit.agree.within ∙ here in
         let is' : codes' u g ≡ t' = code_is ∙ ap (λ o. node_transition graph.shared graph.received o g) kept in
         let alike = steps_alike u f.arguments ps qs t t' over in_unit.enters (together node here)
         (node_keeps u f.place lt f (in_unit.keeps apart) node here (λ s start. apart (can.only f.place s (here ∙ ap Some start)))) in
@@ -378,12 +381,12 @@ module _ (graphs middles : List GraphShape) (program : IsGraphProgram graphs) (k
         let after = can.succs 0 0 start.0 (ap (λ o. slice_get (succs_of o) 0) start.1) in
         let here : slice_get graph.nodes f.place ≡ Some (Start start.0) = ap (slice_get graph.nodes) first ∙ start.1 in
         let both = together (Start start.0) here in
-        let leads = begun_leads graph.vars graph.received graph.nodes can puts (puts_plain graph.received (knows u lt).constants) in
+        let leads = behind_start_leads graph.vars graph.received graph.nodes can puts (puts_plain graph.received (knows u lt).constants) in
         let there : Frame = record { place = start.0; arguments = f.arguments; values = received_from 0 graph.received f.arguments (with_first (shared_values graph.shared f.values) all_zero) } in
         let entered' : Frame = record { place = leads.next; arguments = g.arguments; values = received_from 0 graph.received g.arguments (with_first (shared_values graph.shared g.values) all_zero) } in
         let there' : Frame = gone_on start.0 (values_after puts entered'.values) entered' in
         let is : codes u f ≡ Continues 0 there = ap (λ o. node_transition graph.shared graph.received o f) here in
-        let is' : codes' u g ≡ Continues 0 entered' = code_is ∙ ap (λ o. node_transition graph.shared graph.received o g) (ap (slice_get (begun graph.nodes puts)) (in_unit.agree.place ∙ first) ∙ leads.start) in
+        let is' : codes' u g ≡ Continues 0 entered' = code_is ∙ ap (λ o. node_transition graph.shared graph.received o g) (ap (slice_get (put_behind_start graph.nodes puts)) (in_unit.agree.place ∙ first) ∙ leads.start) in
         let k = knows u lt in
         let run = leads.silent middle.shared middle.received entered' refl in
         let silent = subst (λ l. Silently (graph_code middle.shared middle.received l) run.0 entered' there' 0) (sym k.nodes) run.1 in

@@ -1,6 +1,6 @@
 pub mod Constants
-pub mod Begun
+pub mod BehindStart
 pub mod ArgumentStacks
-pub mod Gathering
+pub mod Noting
 pub mod Made
 pub mod Steps

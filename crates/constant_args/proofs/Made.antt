@@ -1,7 +1,6 @@
 -- What is made of each unit is what its arguments always are, and of all units the one program, which keeps its runs.
 use Rattle.std.proofs.Common.{◌≡◌, inl, inr, ℕ, ◌<◌, List, [], ◌∷◌, ◌++◌, length, slice_get, ℤ, Option, Some, refl, sym, ap, ◌∙◌, subst, arith}
 use Rattle.std.proofs.lemmas.Option.{slice_get_within}
-use Rattle.mir_base.specs.declared.instructions.Operand.{Operand}
 use Rattle.mir_base.specs.Shapes.{IsProgram, ProgramShape, UnitShape}
 use Rattle.mir_base.specs.UnitRuns.{UnitCheaper, UnitSame}
 use Rattle.flow_graph.specs.declared.nodes.Node.{Node}
@@ -18,18 +17,18 @@ use Rattle.jump_clean.specs.CleanLaws.{clean_is_one}
 use Rattle.program_pass.specs.PassPrograms.{AllPassed, CleanedLaid, KeepsRuns, LoweredClean, PassKeeps}
 use Rattle.program_pass.specs.PassProgramLaws.{at, between_at, graph_is, graph_program, graphs, graphs_count, middles, passes_keep}
 use Rattle.program_pass.specs.RefitLaws.{called_fits}
-use Rattle.constant_args.specs.ConstantArguments.{AreConstants, Begins, CallSite, IsCallOf, Knowing, begun, constant_puts}
+use Rattle.constant_args.specs.ConstantArguments.{AreConstants, ArgumentsAssigned, CallSite, IsCallOf, Knowing, put_behind_start, constant_puts}
 use Rattle.constant_args.specs.Gathered.{AreFronts, CallsExist, IsCallBefore, KnowingUnit, KnowsMade}
 use Rattle.constant_args.proofs.ArgumentStacks.{CallsIn, knowing_keep}
-use Rattle.constant_args.proofs.Begun.{begun_calls, begun_can}
+use Rattle.constant_args.proofs.BehindStart.{behind_start_calls, behind_start_can}
 use Rattle.constant_args.proofs.Constants.{puts_below, puts_same}
 
 -- ---- one graph
 
-module _ (graph : GraphShape) (constants : List (Option ℤ)) (nodes : List Node) (can : CanMake graph.vars graph.received graph.nodes) (are : nodes ≡ begun graph.nodes (constant_puts graph.received constants)) where
+module _ (graph : GraphShape) (constants : List (Option ℤ)) (nodes : List Node) (can : CanMake graph.vars graph.received graph.nodes) (are : nodes ≡ put_behind_start graph.nodes (constant_puts graph.received constants)) where
   -- the nodes make a graph
   pub knows_can : CanMake graph.vars graph.received nodes
-  knows_can = subst (CanMake graph.vars graph.received) (sym are) (begun_can graph.vars graph.received graph.nodes can (constant_puts graph.received constants) (puts_below (length graph.vars) graph.received constants can.received_below))
+  knows_can = subst (CanMake graph.vars graph.received) (sym are) (behind_start_can graph.vars graph.received graph.nodes can (constant_puts graph.received constants) (puts_below (length graph.vars) graph.received constants can.received_below))
 
   -- and make no calls but those of the graph
   pub knows_made : (known : GraphShape) → IsMade graph.name graph.shared graph.vars graph.received nodes known → UnitSame (graph_machine graph.shared graph.received nodes) (machine_of known)
@@ -40,12 +39,12 @@ module _ (graph : GraphShape) (constants : List (Option ℤ)) (nodes : List Node
     made = made;
     same = same;
     cheaper = cheaper;
-    begun_calls = λ called count c. begun_calls graph.vars graph.received graph.nodes can (constant_puts graph.received constants) (puts_below (length graph.vars) graph.received constants can.received_below) called count (subst (λ l. NodesCall l called count) are c);
+    behind_start_calls = λ called count c. behind_start_calls graph.vars graph.received graph.nodes can (constant_puts graph.received constants) (puts_below (length graph.vars) graph.received constants can.received_below) called count (subst (λ l. NodesCall l called count) are c);
     known_calls = among;
   }
 
 -- what is kept of it
-pub knows_keeps : (units : List UnitShape) (u : ℕ) (graph : GraphShape) (constants : List (Option ℤ)) (known : GraphShape) → AreConstants (IsCallOf units) u constants → KnowsMade graph constants known → PassKeeps (Begins units u) graph known
+pub knows_keeps : (units : List UnitShape) (u : ℕ) (graph : GraphShape) (constants : List (Option ℤ)) (known : GraphShape) → AreConstants (IsCallOf units) u constants → KnowsMade graph constants known → PassKeeps (ArgumentsAssigned units u) graph known
 knows_keeps units u graph constants known are m = record {
   name = m.made.name_is;
   globals = same_globals graph known m.made.shared_is m.made.vars_are;
@@ -55,7 +54,7 @@ knows_keeps units u graph constants known are m = record {
   received = refl;
   same = m.same;
   cheaper = m.cheaper;
-  middle_calls = m.begun_calls;
+  middle_calls = m.behind_start_calls;
   calls = m.known_calls;
 }
 
@@ -63,8 +62,8 @@ knows_keeps units u graph constants known are m = record {
 pub knowing_one : (units : List UnitShape) (u : ℕ) (graph a b : GraphShape) → Knowing units u graph a → Knowing units u graph b → a ≡ b
 knowing_one units u graph a b p q =
     let puts : constant_puts graph.received p.constants ≡ constant_puts graph.received q.constants = puts_same graph.received p.constants q.constants (λ i c. (λ known. (q.are i c).1 ((p.are i c).0 known), λ known. (p.are i c).1 ((q.are i c).0 known))) in
-    made_is_one graph.name graph.shared graph.vars graph.received (begun graph.nodes (constant_puts graph.received p.constants)) a b p.made
-    (subst (λ l. IsMade graph.name graph.shared graph.vars graph.received (begun graph.nodes l) b) (sym puts) q.made)
+    made_is_one graph.name graph.shared graph.vars graph.received (put_behind_start graph.nodes (constant_puts graph.received p.constants)) a b p.made
+    (subst (λ l. IsMade graph.name graph.shared graph.vars graph.received (put_behind_start graph.nodes l) b) (sym puts) q.made)
 
 -- ---- the calls of the units
 
@@ -163,17 +162,17 @@ fronts_more units gs more number unit lowered graph long are at made is u v g at
 
 -- ---- the program
 
-module _ (source target : ProgramShape) (program : IsProgram source.globals source.units) (globals : target.globals ≡ source.globals) (all : AllPassed (Knowing source.units) (Begins source.units) source.units target.units) where
+module _ (source target : ProgramShape) (program : IsProgram source.globals source.units) (globals : target.globals ≡ source.globals) (all : AllPassed (Knowing source.units) (ArgumentsAssigned source.units) source.units target.units) where
   abbrev own : List GraphShape
-  own = graphs (Knowing source.units) (Begins source.units) source target program globals all
+  own = graphs (Knowing source.units) (ArgumentsAssigned source.units) source target program globals all
 
   -- a call of the graphs is one of the units
   own_call : (u : ℕ) (site : CallSite) → CallsIn own u site → IsCallOf source.units u site
   own_call u site call =
       let there = call.there in
-      let lt : site.caller < length source.units = omega (arith, there, graphs_count (Knowing source.units) (Begins source.units) source target program globals all) in
-      let a = at (Knowing source.units) (Begins source.units) source target program globals all site.caller lt in
-      let cleaned : site.graph ≡ a.made.cleaned = call.graph_is ∙ graph_is (Knowing source.units) (Begins source.units) source target program globals all site.caller lt in
+      let lt : site.caller < length source.units = omega (arith, there, graphs_count (Knowing source.units) (ArgumentsAssigned source.units) source target program globals all) in
+      let a = at (Knowing source.units) (ArgumentsAssigned source.units) source target program globals all site.caller lt in
+      let cleaned : site.graph ≡ a.made.cleaned = call.graph_is ∙ graph_is (Knowing source.units) (ArgumentsAssigned source.units) source target program globals all site.caller lt in
       record {
         unit = a.source;
         lowered = a.made.lowered;
@@ -188,9 +187,9 @@ module _ (source target : ProgramShape) (program : IsProgram source.globals sour
 
   -- the target is the same, evaluates no more operators and is never deeper
   pub knowing_keeps : KeepsRuns source target
-  knowing_keeps = passes_keep (Knowing source.units) (Begins source.units) source target program globals all
-      (knowing_keep own (middles (Knowing source.units) (Begins source.units) source target program globals all) (graph_program (Knowing source.units) (Begins source.units) source target program globals all) (λ u lt.
-      let b = between_at (Knowing source.units) (Begins source.units) source target program globals all u lt in
+  knowing_keeps = passes_keep (Knowing source.units) (ArgumentsAssigned source.units) source target program globals all
+      (knowing_keep own (middles (Knowing source.units) (ArgumentsAssigned source.units) source target program globals all) (graph_program (Knowing source.units) (ArgumentsAssigned source.units) source target program globals all) (λ u lt.
+      let b = between_at (Knowing source.units) (ArgumentsAssigned source.units) source target program globals all u lt in
       record {
         constants = b.constants;
         nodes = b.nodes;

@@ -1,5 +1,5 @@
 -- One step of the loops: one argument more of a call that is noted, and one received variable more.
-use Rattle.std.proofs.Common.{◌≡◌, inl, inr, ℕ, zero, suc, ◌+◌, ◌<◌, List, [], ◌∷◌, ◌++◌, append_assoc, drop, length, map, slice_get, slice_index_or, slice_set, ℤ, Option, Some, None, refl, sym, ap, ◌∙◌, subst, arith}
+use Rattle.std.proofs.Common.{◌≡◌, inl, inr, ℕ, zero, suc, ◌+◌, ◌<◌, List, [], ◌∷◌, ◌++◌, append_assoc, drop, length, map, slice_get, slice_index_or, slice_set, ℤ, Option, Some, None, sym, ap, ◌∙◌, subst, arith}
 use Rattle.std.proofs.lemmas.Bool.{cases_eq, cases_lt}
 use Rattle.std.proofs.lemmas.List.{drop_all, get_or_past, length-set}
 use Rattle.std.proofs.lemmas.Option.{slice_get-get_or, slice_get_within}
@@ -7,25 +7,25 @@ use Rattle.mir_base.specs.declared.instructions.Operand.{Operand}
 use Rattle.mir_base.specs.Shapes.{AllBelow}
 use Rattle.flow_graph.specs.ListLaws.{drop_at, set_elsewhere, set_here}
 use Rattle.graph_edit.specs.Insertions.{Insertion}
-use Rattle.constant_args.specs.declared.held.Held.{Held}
+use Rattle.constant_args.specs.declared.states.ArgumentState.{ArgumentState}
 use Rattle.constant_args.specs.ConstantArguments.{constant_put, constant_puts}
-use Rattle.constant_args.specs.Gathered.{JoinsAll, JoinsAt, kept_var}
+use Rattle.constant_args.specs.Gathered.{JoinsArguments, JoinsArgument, kept_var}
 use Rattle.constant_args.proofs.Constants.{puts_none}
 
 -- ---- what a call gives
 
 -- one argument more
-pub join_more : (i : ℕ) (operands : List Operand) (kept : List (Option ℕ)) (old now : List Held) (held new : Held) → slice_get now i ≡ Some held
-    → JoinsAt operands kept i held new → JoinsAll i operands kept old now → JoinsAll (i + 1) operands kept old (slice_set now i new)
-join_more i operands kept old now held new at joins all = record {
+pub join_more : (i : ℕ) (operands : List Operand) (kept : List (Option ℕ)) (old now : List ArgumentState) (state new : ArgumentState) → slice_get now i ≡ Some state
+    → JoinsArgument operands kept i state new → JoinsArguments i operands kept old now → JoinsArguments (i + 1) operands kept old (slice_set now i new)
+join_more i operands kept old now state new at joins all = record {
   long = length-set now i new ∙ all.long;
   joined = λ j a b low at_a at_b. elim (cases_eq j i) [
     | inl same ↦
-        let was : Some a ≡ Some held = sym at_a ∙ ap (slice_get old) same ∙ sym (all.others i (omega arith)) ∙ at in
-        let is : Some new ≡ Some b = sym (set_here now i new (slice_get_within now i held at)) ∙ ap (slice_get (slice_set now i new)) (sym same) ∙ at_b in
-        let one : held ≡ a = cc in
+        let was : Some a ≡ Some state = sym at_a ∙ ap (slice_get old) same ∙ sym (all.others i (omega arith)) ∙ at in
+        let is : Some new ≡ Some b = sym (set_here now i new (slice_get_within now i state at)) ∙ ap (slice_get (slice_set now i new)) (sym same) ∙ at_b in
+        let one : state ≡ a = cc in
         let other : new ≡ b = cc in
-        subst (λ k. JoinsAt operands kept k a b) (sym same) (subst (λ h. JoinsAt operands kept i h b) one (subst (JoinsAt operands kept i held) other joins))
+        subst (λ k. JoinsArgument operands kept k a b) (sym same) (subst (λ h. JoinsArgument operands kept i h b) one (subst (JoinsArgument operands kept i state) other joins))
     | inr apart ↦ all.joined j a b (below j low apart) at_a (sym (set_elsewhere now i j new apart) ∙ at_b)
   ];
   others = λ j high. set_elsewhere now i j new (λ same. omega (arith, same, high)) ∙ all.others j (omega (arith, high));

@@ -49,8 +49,8 @@ assigned_var (Test test taken other) = []
 assigned_var (Return a) = []
 
 -- no node assigns the variable
-abbrev pub IsKept : List Node → ℕ → Type 0
-IsKept nodes x = is_in x (flat_map assigned_var nodes) ≡ false
+abbrev pub IsNeverAssigned : List Node → ℕ → Type 0
+IsNeverAssigned nodes x = is_in x (flat_map assigned_var nodes) ≡ false
 
 -- the call gives the constant as argument i
 abbrev pub GivesConstant : CallSite → ℕ → ℤ → Type 0
@@ -62,7 +62,7 @@ pub record PassesOn (u i : ℕ) (site : CallSite) : Type 0 where
   pub own : site.caller ≡ u
   pub variable : ℕ
   pub received : slice_get site.graph.received i ≡ Some variable
-  pub kept : IsKept site.graph.nodes variable
+  pub kept : IsNeverAssigned site.graph.nodes variable
   pub operand : slice_get site.operands i ≡ Some (Var variable)
 
 -- Some of these calls of unit u gives the constant c as argument i, and each gives it or passes the argument on. The
@@ -97,9 +97,9 @@ opened nodes = slice_set nodes 0 (Start (length nodes))
     ++ Skip (start_succ (slice_get nodes 0)) ∷ []
 
 -- the nodes with these assignments behind Start, in order; without any they stay as they are
-abbrev pub begun : List Node → List Insertion → List Node
-begun nodes [] = nodes
-begun nodes (put ∷ puts) =
+abbrev pub put_behind_start : List Node → List Insertion → List Node
+put_behind_start nodes [] = nodes
+put_behind_start nodes (put ∷ puts) =
     stood (opened nodes) (length nodes) (put ∷ puts) (start_succ (slice_get nodes 0))
 
 -- Behind Start of the graph of the unit of this number, the constants that its arguments always are stand assigned to
@@ -109,7 +109,7 @@ pub record KnowsArguments (CallsOf : ℕ → CallSite → Type 0) (u : ℕ)
   pub constants : List (Option ℤ)
   pub are : AreConstants CallsOf u constants
   pub made : IsMade graph.name graph.shared graph.vars graph.received
-      (begun graph.nodes (constant_puts graph.received constants)) known
+      (put_behind_start graph.nodes (constant_puts graph.received constants)) known
 
 -- as the relation of a pass
 abbrev pub Knowing : List UnitShape → PassRelation
@@ -122,14 +122,14 @@ HasConstantArguments source target = IsPassedProgram (Knowing source.units) sour
 -- ---- what the functions of this crate make
 
 -- the graph in between: its nodes are those of the graph, with the assignments
-pub record BeginsWith (CallsOf : ℕ → CallSite → Type 0) (u : ℕ)
+pub record AssignsArguments (CallsOf : ℕ → CallSite → Type 0) (u : ℕ)
     (graph middle : GraphShape) : Type 0 where
   pub constants : List (Option ℤ)
   pub are : AreConstants CallsOf u constants
-  pub nodes : middle.nodes ≡ begun graph.nodes (constant_puts graph.received constants)
+  pub nodes : middle.nodes ≡ put_behind_start graph.nodes (constant_puts graph.received constants)
   pub shared : middle.shared ≡ graph.shared
   pub received : middle.received ≡ graph.received
 
 -- as the relation of a pass
-abbrev pub Begins : List UnitShape → PassRelation
-Begins units u graph middle = BeginsWith (IsCallOf units) u graph middle
+abbrev pub ArgumentsAssigned : List UnitShape → PassRelation
+ArgumentsAssigned units u graph middle = AssignsArguments (IsCallOf units) u graph middle

@@ -1,5 +1,5 @@
 -- What the calls of a program give, as it is gathered. Cited by contracts of private functions.
-use Rattle.std.specs.Prelude.{◌≡◌, ◌⊎◌, ◌↔◌, ℕ, ◌<◌, ◌≤◌, true, false, if◌then◌else◌, nat_eq, List, [], ◌∷◌, ◌++◌, flat_map, length, map, replicate, slice_get, ℤ, Option, Some, None}
+use Rattle.std.specs.Prelude.{◌≡◌, ◌⊎◌, ◌↔◌, ℕ, ◌<◌, ◌≤◌, true, false, if◌then◌else◌, nat_eq, List, [], ◌++◌, flat_map, length, map, replicate, slice_get, ℤ, Option, Some, None}
 use Rattle.mir_base.specs.declared.instructions.Operand.{Operand}
 use Rattle.mir_base.specs.declared.instructions.Operand.TheVariants.{Var, Const}
 use Rattle.mir_base.specs.Shapes.{UnitShape}
@@ -12,10 +12,10 @@ use Rattle.flow_graph.specs.Machines.{graph_machine, machine_of}
 use Rattle.flow_graph.specs.Numbering.{is_in}
 use Rattle.flow_graph.specs.Retained.{IsMade}
 use Rattle.program_pass.specs.PassPrograms.{AllPassed, LoweredClean, PassedAt}
-use Rattle.constant_args.specs.declared.given.Given.{Given}
-use Rattle.constant_args.specs.declared.held.Held.{Held}
-use Rattle.constant_args.specs.declared.held.Held.TheVariants.{Open, Always, Varies}
-use Rattle.constant_args.specs.ConstantArguments.{AreConstants, Begins, CallSite, GivesConstant, Knowing, PassesOn, assigned_var, begun, constant_puts}
+use Rattle.constant_args.specs.declared.gathering.NotedCalls.{NotedCalls}
+use Rattle.constant_args.specs.declared.states.ArgumentState.{ArgumentState}
+use Rattle.constant_args.specs.declared.states.ArgumentState.TheVariants.{Open, Always, Varies}
+use Rattle.constant_args.specs.ConstantArguments.{AreConstants, ArgumentsAssigned, CallSite, GivesConstant, Knowing, PassesOn, assigned_var, put_behind_start, constant_puts}
 
 -- ---- the graphs
 
@@ -68,51 +68,51 @@ pub record IsPassed (operands : List Operand) (kept : List (Option ℕ)) (i : �
 -- ---- one call
 
 -- the constant that an argument always is, where there is one
-abbrev pub constant_held : Held → Option ℤ
-constant_held Open = None
-constant_held (Always c) = Some c
-constant_held Varies = None
+abbrev pub constant_in : ArgumentState → Option ℤ
+constant_in Open = None
+constant_in (Always c) = Some c
+constant_in Varies = None
 
--- what an operand makes of what is held: a constant, where it gives this constant, and nothing else was held
-pub record Joins (held : Held) (operand : Option Operand) (new : Held) : Type 0 where
+-- what an operand makes of what is state: a constant, where it gives this constant, and nothing else was state
+pub record JoinsOperand (state : ArgumentState) (operand : Option Operand) (new : ArgumentState) : Type 0 where
   pub closed : new ≡ Open → ⊥
   pub gives : (c : ℤ) → (new ≡ Always c)
-      ↔ ((operand ≡ Some (Const c)) × ((held ≡ Open) ⊎ (held ≡ Always c)))
+      ↔ ((operand ≡ Some (Const c)) × ((state ≡ Open) ⊎ (state ≡ Always c)))
 
--- what operand i makes of what is held, unless it passes the argument on
-pub record JoinsAt (operands : List Operand) (kept : List (Option ℕ)) (i : ℕ) (held new : Held)
+-- what operand i makes of what is state, unless it passes the argument on
+pub record JoinsArgument (operands : List Operand) (kept : List (Option ℕ)) (i : ℕ) (state new : ArgumentState)
     : Type 0 where
-  pub passed : IsPassed operands kept i → new ≡ held
-  pub joined : (IsPassed operands kept i → ⊥) → Joins held (slice_get operands i) new
+  pub passed : IsPassed operands kept i → new ≡ state
+  pub joined : (IsPassed operands kept i → ⊥) → JoinsOperand state (slice_get operands i) new
 
 -- so of the first so many arguments
-pub record JoinsAll (count : ℕ) (operands : List Operand) (kept : List (Option ℕ))
-    (old new : List Held) : Type 0 where
+pub record JoinsArguments (count : ℕ) (operands : List Operand) (kept : List (Option ℕ))
+    (old new : List ArgumentState) : Type 0 where
   pub long : length new ≡ length old
-  pub joined : (i : ℕ) (a b : Held) → i < count → slice_get old i ≡ Some a
-      → slice_get new i ≡ Some b → JoinsAt operands kept i a b
+  pub joined : (i : ℕ) (a b : ArgumentState) → i < count → slice_get old i ≡ Some a
+      → slice_get new i ≡ Some b → JoinsArgument operands kept i a b
   pub others : (i : ℕ) → count ≤ i → slice_get new i ≡ slice_get old i
 
--- what is held before a call: nothing of any argument, where it is the first
-abbrev pub opened_helds : Given → List Operand → List Held
-opened_helds given operands =
-    if given.called then given.arguments.items
-    else given.arguments.items ++ replicate (length operands) Open
+-- what is state before a call: nothing of any argument, where it is the first
+abbrev pub states_before : NotedCalls → List Operand → List ArgumentState
+states_before calls operands =
+    if calls.called then calls.arguments.items
+    else calls.arguments.items ++ replicate (length operands) Open
 
 -- a call is noted
-pub record NotesCall (operands : List Operand) (kept : List (Option ℕ)) (old new : Given)
+pub record NotesSite (operands : List Operand) (kept : List (Option ℕ)) (old new : NotedCalls)
     : Type 0 where
   pub called : new.called ≡ true
-  pub joins : JoinsAll (length (opened_helds old operands)) operands kept
-      (opened_helds old operands) new.arguments.items
+  pub joins : JoinsArguments (length (states_before old operands)) operands kept
+      (states_before old operands) new.arguments.items
 
 -- the call of this node of unit w is noted at its unit, where it is one; the other units stay
-pub record NotesNode (node : Node) (w : ℕ) (kept : List (Option ℕ)) (old new : List Given)
+pub record NotesNode (node : Node) (w : ℕ) (kept : List (Option ℕ)) (old new : List NotedCalls)
     : Type 0 where
   pub long : length new ≡ length old
-  pub noted : (into : Option ℕ) (v : ℕ) (operands : List Operand) (next : ℕ) (a b : Given)
+  pub noted : (into : Option ℕ) (v : ℕ) (operands : List Operand) (next : ℕ) (a b : NotedCalls)
       → node ≡ Call into v operands next → slice_get old v ≡ Some a → slice_get new v ≡ Some b
-      → NotesCall operands (passed_to v w kept) a b
+      → NotesSite operands (passed_to v w kept) a b
   pub others : (u : ℕ) → ((into : Option ℕ) (operands : List Operand) (next : ℕ)
       → node ≡ Call into u operands next → ⊥)
       → slice_get new u ≡ slice_get old u
@@ -124,35 +124,35 @@ abbrev pub EachGives : (CallSite → Type 0) → ℕ → ℕ → ℤ → Type 0
 EachGives IsCall u i c = (site : CallSite) → IsCall site
     → GivesConstant site i c ⊎ PassesOn u i site
 
--- what these calls of unit u give argument i, where something is held of it
-pub record IsHeldBy (IsCall : CallSite → Type 0) (u i : ℕ) (held : Option Held) : Type 0 where
-  pub open_each : held ≡ Some Open → (site : CallSite) → IsCall site → PassesOn u i site
-  pub always_some : (c : ℤ) → held ≡ Some (Always c)
+-- what these calls of unit u give argument i, where something is state of it
+pub record IsStateBy (IsCall : CallSite → Type 0) (u i : ℕ) (state : Option ArgumentState) : Type 0 where
+  pub open_each : state ≡ Some Open → (site : CallSite) → IsCall site → PassesOn u i site
+  pub always_some : (c : ℤ) → state ≡ Some (Always c)
       → (site : CallSite) × IsCall site × GivesConstant site i c
-  pub always_each : (c : ℤ) → held ≡ Some (Always c) → EachGives IsCall u i c
-  pub varies : (held ≡ Some Open → ⊥) → ((c : ℤ) → held ≡ Some (Always c) → ⊥)
+  pub always_each : (c : ℤ) → state ≡ Some (Always c) → EachGives IsCall u i c
+  pub varies : (state ≡ Some Open → ⊥) → ((c : ℤ) → state ≡ Some (Always c) → ⊥)
       → (c : ℤ) → EachGives IsCall u i c → ⊥
 
 -- what these calls of unit u give it
-pub record IsGivenBy (IsCall : CallSite → Type 0) (u : ℕ) (given : Given) : Type 0 where
-  pub uncalled : given.called ≡ false
-      → (given.arguments.items ≡ []) × ((site : CallSite) → IsCall site → ⊥)
-  pub called : given.called ≡ true
-      → (i : ℕ) → IsHeldBy IsCall u i (slice_get given.arguments.items i)
+pub record IsNotedBy (IsCall : CallSite → Type 0) (u : ℕ) (calls : NotedCalls) : Type 0 where
+  pub uncalled : calls.called ≡ false
+      → (calls.arguments.items ≡ []) × ((site : CallSite) → IsCall site → ⊥)
+  pub called : calls.called ≡ true
+      → (i : ℕ) → IsStateBy IsCall u i (slice_get calls.arguments.items i)
 
 -- for each unit, what the calls before node n of graph w give
-pub record AreGivenBefore (graphs : List GraphShape) (w n : ℕ) (givens : List Given)
+pub record AreNotedBefore (graphs : List GraphShape) (w n : ℕ) (noted : List NotedCalls)
     : Type 0 where
-  pub long : length givens ≡ length graphs
-  pub each : (u : ℕ) (given : Given) → slice_get givens u ≡ Some given
-      → IsGivenBy (IsCallBefore graphs w n u) u given
+  pub long : length noted ≡ length graphs
+  pub each : (u : ℕ) (calls : NotedCalls) → slice_get noted u ≡ Some calls
+      → IsNotedBy (IsCallBefore graphs w n u) u calls
 
 -- for each unit, the constants that its arguments always are
-pub record AreAllConstants (graphs : List GraphShape) (givens : List Given) : Type 0 where
-  pub long : length givens ≡ length graphs
-  pub each : (u : ℕ) (given : Given) → slice_get givens u ≡ Some given
+pub record AreAllConstants (graphs : List GraphShape) (noted : List NotedCalls) : Type 0 where
+  pub long : length noted ≡ length graphs
+  pub each : (u : ℕ) (calls : NotedCalls) → slice_get noted u ≡ Some calls
       → AreConstants (IsCallBefore graphs (length graphs) 0) u
-      (map constant_held given.arguments.items)
+      (map constant_in calls.arguments.items)
 
 -- ---- what is made of a graph
 
@@ -160,17 +160,17 @@ pub record AreAllConstants (graphs : List GraphShape) (givens : List Given) : Ty
 pub record KnowsMade (graph : GraphShape) (constants : List (Option ℤ)) (known : GraphShape)
     : Type 0 where
   pub nodes : List Node
-  pub nodes_are : nodes ≡ begun graph.nodes (constant_puts graph.received constants)
+  pub nodes_are : nodes ≡ put_behind_start graph.nodes (constant_puts graph.received constants)
   pub made : IsMade graph.name graph.shared graph.vars graph.received nodes known
   pub same : UnitSame (graph_machine graph.shared graph.received nodes) (machine_of known)
   pub cheaper : UnitCheaper (graph_machine graph.shared graph.received nodes) (machine_of known)
-  pub begun_calls : CallsAmong (NodesCall nodes) (NodesCall graph.nodes)
+  pub behind_start_calls : CallsAmong (NodesCall nodes) (NodesCall graph.nodes)
   pub known_calls : CallsAmong (NodesCall known.nodes) (NodesCall nodes)
 
 -- what was made of the unit of this number
 abbrev pub KnowingUnit : List UnitShape → ℕ → UnitShape → Type 0
-KnowingUnit units = PassedAt (Knowing units) (Begins units) units
+KnowingUnit units = PassedAt (Knowing units) (ArgumentsAssigned units) units
 
 -- of all units
 abbrev pub KnowingUnits : List UnitShape → List UnitShape → Type 0
-KnowingUnits units = AllPassed (Knowing units) (Begins units) units
+KnowingUnits units = AllPassed (Knowing units) (ArgumentsAssigned units) units

@@ -15,7 +15,12 @@ pub(crate) fn kept_vars(alloc: Global, graph: &Graph) -> Result<Vec<Option<usize
 {
     let _nodes = graph.nodes();
     let assigned = assigned_vars(alloc, graph)?;
-    let kept = kept_among(alloc, graph.received(), assigned.as_slice(), graph.vars().len())?;
+    let kept = kept_among(
+        alloc,
+        graph.received(),
+        assigned.as_slice(),
+        graph.vars().len(),
+    )?;
     Ok(kept)
 }
 

@@ -2,10 +2,10 @@
 ghost use Rattle.std.specs.Prelude.{◌≡◌, ◌<◌, ◌++◌, ◌∷◌, [], length, map, slice_index_or, slice_set, IfOk, None, OnOk};
 ghost use Rattle.flow_graph.specs.declared.nodes.Node.TheVariants.{Skip, Start};
 ghost use Rattle.program_pass.specs.Puts.{insertions};
-ghost use Rattle.constant_args.specs.ConstantArguments.{begun, constant_put, constant_puts};
-ghost use Rattle.constant_args.specs.Gathered.{KnowsMade, constant_held};
+ghost use Rattle.constant_args.specs.ConstantArguments.{put_behind_start, constant_put, constant_puts};
+ghost use Rattle.constant_args.specs.Gathered.{KnowsMade, constant_in};
 
-use crate::held::{Held, constant_held};
+use crate::states::{ArgumentState, constant_in};
 use flow_graph::{Graph, Node};
 use mir_base::{Memory, Operand};
 use program_pass::{Put, copied_nodes, plain_put, stand, start_succ};
@@ -16,13 +16,13 @@ use std::alloc::Global;
 pub(crate) fn knowing(
     alloc: Global,
     graph: &Graph,
-    arguments: &[Held],
+    arguments: &[ArgumentState],
 ) -> Result<Graph, Memory>
-    ensures { IfOk result (KnowsMade graph.now (map constant_held arguments.now)) }
+    ensures { IfOk result (KnowsMade graph.now (map constant_in arguments.now)) }
 {
     let _nodes = graph.nodes();
     let puts = constant_puts(alloc, graph.received(), arguments)?;
-    let nodes = begun(alloc, graph, puts.as_slice())?;
+    let nodes = put_behind_start(alloc, graph, puts.as_slice())?;
     let known = graph.with_nodes(alloc, nodes)?;
     Ok(known)
 }
@@ -31,10 +31,10 @@ pub(crate) fn knowing(
 fn constant_puts(
     alloc: Global,
     received: &[usize],
-    arguments: &[Held],
+    arguments: &[ArgumentState],
 ) -> Result<Vec<Put>, Memory>
     ensures { IfOk result (λ puts. insertions puts.items
-        ≡ constant_puts received.now (map constant_held arguments.now)) }
+        ≡ constant_puts received.now (map constant_in arguments.now)) }
 {
     let mut puts = Vec::new(alloc);
     for i in 0..received.len() {
@@ -44,11 +44,11 @@ fn constant_puts(
 }
 
 /// The constant that argument `i` always is, where there is one.
-fn constant_at(arguments: &[Held], i: usize) -> Option<i64>
-    ensures { result ≡ slice_index_or (map constant_held arguments.now) i None }
+fn constant_at(arguments: &[ArgumentState], i: usize) -> Option<i64>
+    ensures { result ≡ slice_index_or (map constant_in arguments.now) i None }
 {
     match arguments.get(i) {
-        Some(held) => constant_held(*held),
+        Some(state) => constant_in(*state),
         None => None,
     }
 }
@@ -68,8 +68,8 @@ fn push_put(puts: &mut Vec<Put>, var: usize, constant: Option<i64>) -> Result<()
 }
 
 /// The nodes with these assignments behind Start; without any they stay as they are.
-fn begun(alloc: Global, graph: &Graph, puts: &[Put]) -> Result<Vec<Node>, Memory>
-    ensures { IfOk result (λ nodes. nodes.items ≡ begun graph.now.nodes (insertions puts.now)) }
+fn put_behind_start(alloc: Global, graph: &Graph, puts: &[Put]) -> Result<Vec<Node>, Memory>
+    ensures { IfOk result (λ nodes. nodes.items ≡ put_behind_start graph.now.nodes (insertions puts.now)) }
 {
     let mut nodes = copied_nodes(alloc, graph.nodes())?;
     if !puts.is_empty() {

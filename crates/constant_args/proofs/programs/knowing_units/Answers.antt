@@ -1,6 +1,6 @@
 use Rattle.std.proofs.Common.{◌≡◌, ◌∙◌, length, ap, arith}
 use Rattle.program_pass.specs.UnitMakes.{each_more, long_more}
-use Rattle.constant_args.specs.ConstantArguments.{Begins, Knowing}
+use Rattle.constant_args.specs.ConstantArguments.{ArgumentsAssigned, Knowing}
 use Rattle.constant_args.proofs.programs.knowing_units.Goals as goal
 
 pub loop-number-preserved : goal.loop-number-preserved
@@ -11,7 +11,7 @@ loop-number-preserved c =
     let target = c.in_ok-knowing_unit.field-0 in
     record {
       long = long_more units more c.loop-number.number target c.loop-number.invariant.long c.in_ok-push.ensures.items;
-      units = each_more (Knowing sources) (Begins sources) sources units more c.loop-number.number target c.loop-number.invariant.long c.loop-number.invariant.units c.in_ok-knowing_unit.ensures c.in_ok-push.ensures.items;
+      units = each_more (Knowing sources) (ArgumentsAssigned sources) sources units more c.loop-number.number target c.loop-number.invariant.long c.loop-number.invariant.units c.in_ok-knowing_unit.ensures c.in_ok-push.ensures.items;
     }
 
 pub returns : goal.returns

@@ -8,13 +8,13 @@ use Rattle.mir_base.specs.declared.instructions.Operand.TheVariants.{Var, Const}
 use Rattle.flow_graph.specs.declared.nodes.Node.{Node}
 use Rattle.flow_graph.specs.declared.nodes.Node.TheVariants.{Start, Skip, Assign, Print, Guard, Call, Test, Return}
 use Rattle.flow_graph.specs.Graphs.{GraphShape}
-use Rattle.flow_graph.specs.ListLaws.{get_push, set_elsewhere, set_here, some_at}
+use Rattle.flow_graph.specs.ListLaws.{set_elsewhere, set_here, some_at}
 use Rattle.flow_graph.specs.Numbering.{is_in}
-use Rattle.constant_args.specs.declared.given.Given.{Given}
-use Rattle.constant_args.specs.declared.held.Held.{Held}
-use Rattle.constant_args.specs.declared.held.Held.TheVariants.{Open, Always, Varies}
+use Rattle.constant_args.specs.declared.gathering.NotedCalls.{NotedCalls}
+use Rattle.constant_args.specs.declared.states.ArgumentState.{ArgumentState}
+use Rattle.constant_args.specs.declared.states.ArgumentState.TheVariants.{Open, Always, Varies}
 use Rattle.constant_args.specs.ConstantArguments.{AlwaysGive, AreConstants, CallSite, GivesConstant, PassesOn, assigned_var}
-use Rattle.constant_args.specs.Gathered.{AreAllConstants, AreGivenBefore, EachGives, IsCallBefore, IsGivenBy, IsHeldBy, IsPassed, Joins, JoinsAll, JoinsAt, NotesCall, NotesNode, constant_held, kept_var, kept_vars, opened_helds, passed_to}
+use Rattle.constant_args.specs.Gathered.{AreAllConstants, AreNotedBefore, EachGives, IsCallBefore, IsNotedBy, IsStateBy, IsPassed, JoinsOperand, JoinsArguments, JoinsArgument, NotesSite, NotesNode, constant_in, kept_var, kept_vars, passed_to}
 
 -- ---- what is passed on
 
@@ -68,31 +68,31 @@ not_both u i c site gives passes = let e = sym gives ∙ passes.operand in cc
 -- ---- one call
 
 -- where there is no call, none is given
-pub given_none : (IsCall : CallSite → Type 0) (u : ℕ) (given : Given) → given.called ≡ false → given.arguments.items ≡ [] → ((site : CallSite) → IsCall site → ⊥) → IsGivenBy IsCall u given
-given_none IsCall u given off empty out = record {
+pub given_none : (IsCall : CallSite → Type 0) (u : ℕ) (calls : NotedCalls) → calls.called ≡ false → calls.arguments.items ≡ [] → ((site : CallSite) → IsCall site → ⊥) → IsNotedBy IsCall u calls
+given_none IsCall u calls off empty out = record {
   uncalled = λ e. (empty, out);
   called = λ e. absurd (true≢false (sym e ∙ off));
 }
 
 -- the same calls give the same
-pub given_same : (IsCall IsOther : CallSite → Type 0) (u : ℕ) (given : Given) → ((site : CallSite) → IsCall site → IsOther site) → ((site : CallSite) → IsOther site → IsCall site)
-    → IsGivenBy IsCall u given → IsGivenBy IsOther u given
-given_same IsCall IsOther u given forth back is = record {
+pub given_same : (IsCall IsOther : CallSite → Type 0) (u : ℕ) (calls : NotedCalls) → ((site : CallSite) → IsCall site → IsOther site) → ((site : CallSite) → IsOther site → IsCall site)
+    → IsNotedBy IsCall u calls → IsNotedBy IsOther u calls
+given_same IsCall IsOther u calls forth back is = record {
   uncalled = λ e. let none = is.uncalled e in (none.0, λ site call. none.1 site (back site call));
   called = λ e i.
-      let held = is.called e i in
+      let state = is.called e i in
       record {
-        open_each = λ o site call. held.open_each o site (back site call);
-        always_some = λ c o. let some = held.always_some c o in (some.0, forth some.0 some.1, some.2);
-        always_each = λ c o site call. held.always_each c o site (back site call);
-        varies = λ closed never c each. held.varies closed never c (λ site call. each site (forth site call));
+        open_each = λ o site call. state.open_each o site (back site call);
+        always_some = λ c o. let some = state.always_some c o in (some.0, forth some.0 some.1, some.2);
+        always_each = λ c o site call. state.always_each c o site (back site call);
+        varies = λ closed never c each. state.varies closed never c (λ site call. each site (forth site call));
       };
 }
 
 module _ (IsCall IsMore : CallSite → Type 0) (u : ℕ) (new : CallSite) (is_new : IsMore new) (stays : (site : CallSite) → IsCall site → IsMore site) (old_or_new : (site : CallSite) → IsMore site → IsCall site ⊎ (new ≡ site)) where
-  -- one argument, of which this was held
-  held_more : (i : ℕ) (a b : Held) → JoinsAt new.operands (passed_to u new.caller (kept_vars new.graph)) i a b → IsHeldBy IsCall u i (Some a) → IsHeldBy IsMore u i (Some b)
-  held_more i a b joins is = elim (passed_or_not new.operands (passed_to u new.caller (kept_vars new.graph)) i) [
+  -- one argument, of which this was state
+  state_more : (i : ℕ) (a b : ArgumentState) → JoinsArgument new.operands (passed_to u new.caller (kept_vars new.graph)) i a b → IsStateBy IsCall u i (Some a) → IsStateBy IsMore u i (Some b)
+  state_more i a b joins is = elim (passed_or_not new.operands (passed_to u new.caller (kept_vars new.graph)) i) [
     | inl passed ↦
         let same : Some b ≡ Some a = ap Some (joins.passed passed) in
         let passes = (passed_told u i new).0 passed in
@@ -121,7 +121,7 @@ module _ (IsCall IsMore : CallSite → Type 0) (u : ℕ) (new : CallSite) (is_ne
         }
   ]
     where
-      varies : (held : Held) → a ≡ held → Joins a (slice_get new.operands i) b → ((c : ℤ) → Some b ≡ Some (Always c) → ⊥) → (c : ℤ) → GivesConstant new i c → EachGives IsMore u i c → ⊥
+      varies : (state : ArgumentState) → a ≡ state → JoinsOperand a (slice_get new.operands i) b → ((c : ℤ) → Some b ≡ Some (Always c) → ⊥) → (c : ℤ) → GivesConstant new i c → EachGives IsMore u i c → ⊥
       varies Open e j never c gives each = never c (ap Some ((j.gives c).1 (gives, inl e)))
       varies (Always d) e j never c gives each =
           let some = is.always_some d (ap Some e) in
@@ -134,8 +134,8 @@ module _ (IsCall IsMore : CallSite → Type 0) (u : ℕ) (new : CallSite) (is_ne
           ]
       varies Varies e j never c gives each = is.varies (λ o. let off : Some Varies ≡ Some Open = ap Some (sym e) ∙ o in cc) (λ d o. let off : Some Varies ≡ Some (Always d) = ap Some (sym e) ∙ o in cc) c (λ site call. each site (stays site call))
 
-  -- behind the last argument nothing is held
-  past_more : (i : ℕ) → IsHeldBy IsCall u i None → IsHeldBy IsMore u i None
+  -- behind the last argument nothing is state
+  past_more : (i : ℕ) → IsStateBy IsCall u i None → IsStateBy IsMore u i None
   past_more i is = record {
     open_each = λ o. cc;
     always_some = λ c o. cc;
@@ -144,7 +144,7 @@ module _ (IsCall IsMore : CallSite → Type 0) (u : ℕ) (new : CallSite) (is_ne
   }
 
   -- nor before the first call
-  past_first : (i : ℕ) → slice_get new.operands i ≡ None → IsHeldBy IsMore u i None
+  past_first : (i : ℕ) → slice_get new.operands i ≡ None → IsStateBy IsMore u i None
   past_first i none = record {
     open_each = λ o. cc;
     always_some = λ c o. cc;
@@ -156,8 +156,8 @@ module _ (IsCall IsMore : CallSite → Type 0) (u : ℕ) (new : CallSite) (is_ne
   }
 
   -- of no calls
-  held_first : ((site : CallSite) → IsCall site → ⊥) → (i : ℕ) → IsHeldBy IsCall u i (Some Open)
-  held_first none i = record {
+  state_first : ((site : CallSite) → IsCall site → ⊥) → (i : ℕ) → IsStateBy IsCall u i (Some Open)
+  state_first none i = record {
     open_each = λ o site call. absurd (none site call);
     always_some = λ c o. cc;
     always_each = λ c o. cc;
@@ -165,38 +165,39 @@ module _ (IsCall IsMore : CallSite → Type 0) (u : ℕ) (new : CallSite) (is_ne
   }
 
   -- one call more
-  module _ (a b : Given) (notes : NotesCall new.operands (passed_to u new.caller (kept_vars new.graph)) a b) (is : IsGivenBy IsCall u a) where
-    -- all arguments, where these were held
-    helds_more : (before : List Held) → JoinsAll (length before) new.operands (passed_to u new.caller (kept_vars new.graph)) before b.arguments.items
-        → ((i : ℕ) (held : Held) → slice_get before i ≡ Some held → IsHeldBy IsCall u i (Some held)) → ((i : ℕ) → length before ≤ i → IsHeldBy IsMore u i None)
-        → (i : ℕ) → IsHeldBy IsMore u i (slice_get b.arguments.items i)
-    helds_more before joins inside past i = elim (cases_lt i (length before)) [
+  module _ (a b : NotedCalls) (notes : NotesSite new.operands (passed_to u new.caller (kept_vars new.graph)) a b) (is : IsNotedBy IsCall u a) where
+    -- all arguments, where these were state
+    states_more : (before : List ArgumentState) → JoinsArguments (length before) new.operands (passed_to u new.caller (kept_vars new.graph)) before b.arguments.items
+        → ((i : ℕ) (state : ArgumentState) → slice_get before i ≡ Some state → IsStateBy IsCall u i (Some state)) → ((i : ℕ) → length before ≤ i → IsStateBy IsMore u i None)
+        → (i : ℕ) → IsStateBy IsMore u i (slice_get b.arguments.items i)
+    states_more before joins inside past i = elim (cases_lt i (length before)) [
       | inl lt ↦
           let old = some_at before i lt in
           let now = some_at b.arguments.items i (omega (arith, lt, joins.long)) in
-          subst (IsHeldBy IsMore u i) (sym now.1) (held_more i old.0 now.0 (joins.joined i old.0 now.0 lt old.1 now.1) (inside i old.0 old.1))
-      | inr ge ↦ subst (IsHeldBy IsMore u i) (sym (slice_get_past b.arguments.items i (omega (arith, ge, joins.long)))) (past i ge)
+          subst (IsStateBy IsMore u i) (sym now.1) (state_more i old.0 now.0 (joins.joined i old.0 now.0 lt old.1 now.1) (inside i old.0 old.1))
+      | inr ge ↦ subst (IsStateBy IsMore u i) (sym (slice_get_past b.arguments.items i (omega (arith, ge, joins.long)))) (past i ge)
     ]
 
     -- by whether there was a call
-    arguments_more : (called : Bool) → a.called ≡ called → JoinsAll (length (if called then a.arguments.items else a.arguments.items ++ replicate (length new.operands) Open)) new.operands (passed_to u new.caller (kept_vars new.graph)) (if called then a.arguments.items else a.arguments.items ++ replicate (length new.operands) Open) b.arguments.items
-        → (i : ℕ) → IsHeldBy IsMore u i (slice_get b.arguments.items i)
-    arguments_more true on joins = helds_more a.arguments.items joins
-        (λ i held at. subst (IsHeldBy IsCall u i) at (is.called on i))
-        (λ i ge. past_more i (subst (IsHeldBy IsCall u i) (slice_get_past a.arguments.items i ge) (is.called on i)))
+    arguments_more : (called : Bool) → a.called ≡ called → JoinsArguments (length (if called then a.arguments.items else a.arguments.items ++ replicate (length new.operands) Open)) new.operands (passed_to u new.caller (kept_vars new.graph)) (if called then a.arguments.items else a.arguments.items ++ replicate (length new.operands) Open) b.arguments.items
+        → (i : ℕ) → IsStateBy IsMore u i (slice_get b.arguments.items i)
+    arguments_more true on joins = states_more a.arguments.items joins
+        (λ i state at. subst (IsStateBy IsCall u i) at (is.called on i))
+        (λ i ge. past_more i (subst (IsStateBy IsCall u i) (slice_get_past a.arguments.items i ge) (is.called on i)))
     arguments_more false off joins =
         let none = is.uncalled off in
         let opened : a.arguments.items ++ replicate (length new.operands) Open ≡ replicate (length new.operands) Open = ap (λ l. l ++ replicate (length new.operands) Open) none.0 in
-        helds_more (replicate (length new.operands) Open) (subst (λ l. JoinsAll (length l) new.operands (passed_to u new.caller (kept_vars new.graph)) l b.arguments.items) opened joins)
-        (λ i held at. subst (λ h. IsHeldBy IsCall u i (Some h)) (all_open (length new.operands) i held at) (held_first none.1 i))
+        states_more (replicate (length new.operands) Open) (subst (λ l. JoinsArguments (length l) new.operands (passed_to u new.caller (kept_vars new.graph)) l b.arguments.items) opened joins)
+        (λ i state at. subst (λ h. IsStateBy IsCall u i (Some h)) (all_open (length new.operands) i state at) (state_first none.1 i))
         (λ i ge. past_first i (slice_get_past new.operands i (let long = length-replicate (length new.operands) Open in omega (arith, long, ge))))
       where
-        all_open : (n i : ℕ) (held : Held) → slice_get (replicate n Open) i ≡ Some held → Open ≡ held
-        all_open zero i held at = cc
-        all_open (suc n) zero held at = cc
-        all_open (suc n) (suc i) held at = all_open n i held at
+        all_open : (n i : ℕ) (state : ArgumentState) → slice_get (replicate n Open) i ≡ Some state → Open ≡ state
+        all_open zero i state at = cc
+        all_open (suc n) zero state at = cc
+        all_open (suc n) (suc i) state at = all_open n i state at
 
-    pub given_more : IsGivenBy IsMore u b
+    -- so of all that is given
+    pub given_more : IsNotedBy IsMore u b
     given_more = record { uncalled = λ e. absurd (true≢false (sym notes.called ∙ e)); called = λ e. arguments_more a.called refl notes.joins }
 
 -- ---- one node
@@ -273,10 +274,10 @@ module _ (graphs : List GraphShape) (w n : ℕ) (graph : GraphShape) (node : Nod
       with_before before = record { number = call.number; into = call.into; next = call.next; graph_at = call.graph_at; here = call.here; before = before }
 
   -- one node more
-  pub node_noted : (old new : List Given) → NotesNode node w (kept_vars graph) old new → AreGivenBefore graphs w n old → AreGivenBefore graphs w (n + 1) new
+  pub node_noted : (old new : List NotedCalls) → NotesNode node w (kept_vars graph) old new → AreNotedBefore graphs w n old → AreNotedBefore graphs w (n + 1) new
   node_noted old new notes are = record { long = notes.long ∙ are.long; each = λ u b at_b. of u b at_b (calls_or_not node u) }
     where
-      of : (u : ℕ) (b : Given) → slice_get new u ≡ Some b → CallsUnit node u ⊎ NoCallOf node u → IsGivenBy (IsCallBefore graphs w (n + 1) u) u b
+      of : (u : ℕ) (b : NotedCalls) → slice_get new u ≡ Some b → CallsUnit node u ⊎ NoCallOf node u → IsNotedBy (IsCallBefore graphs w (n + 1) u) u b
       of u b at_b (inl call) =
           let lt = slice_get_within new u b at_b in
           let a = some_at old u (omega (arith, lt, notes.long)) in
@@ -297,11 +298,11 @@ module _ (graphs : List GraphShape) (w n : ℕ) (graph : GraphShape) (node : Nod
 -- ---- one graph
 
 -- before the first node of the next graph
-pub graph_noted : (graphs : List GraphShape) (w : ℕ) (graph : GraphShape) (givens : List Given) → slice_get graphs w ≡ Some graph
-    → AreGivenBefore graphs w (length graph.nodes) givens → AreGivenBefore graphs (w + 1) 0 givens
-graph_noted graphs w graph givens at are = record {
+pub graph_noted : (graphs : List GraphShape) (w : ℕ) (graph : GraphShape) (noted : List NotedCalls) → slice_get graphs w ≡ Some graph
+    → AreNotedBefore graphs w (length graph.nodes) noted → AreNotedBefore graphs (w + 1) 0 noted
+graph_noted graphs w graph noted at are = record {
   long = are.long;
-  each = λ u given at_u. given_same (IsCallBefore graphs w (length graph.nodes) u) (IsCallBefore graphs (w + 1) 0 u) u given (forth u) (back u) (are.each u given at_u);
+  each = λ u calls at_u. given_same (IsCallBefore graphs w (length graph.nodes) u) (IsCallBefore graphs (w + 1) 0 u) u calls (forth u) (back u) (are.each u calls at_u);
 }
   where
     forth : (u : ℕ) (site : CallSite) → IsCallBefore graphs w (length graph.nodes) u site → IsCallBefore graphs (w + 1) 0 u site
@@ -337,25 +338,25 @@ graph_noted graphs w graph givens at are = record {
 -- ---- the first and the last
 
 -- nothing is given before the first graph
-pub none_noted : (graphs : List GraphShape) (givens : List Given) → length givens ≡ length graphs
-    → ((u : ℕ) (given : Given) → slice_get givens u ≡ Some given → (given.called ≡ false) × (given.arguments.items ≡ [])) → AreGivenBefore graphs 0 0 givens
-none_noted graphs givens long none = record {
+pub none_noted : (graphs : List GraphShape) (noted : List NotedCalls) → length noted ≡ length graphs
+    → ((u : ℕ) (calls : NotedCalls) → slice_get noted u ≡ Some calls → (calls.called ≡ false) × (calls.arguments.items ≡ [])) → AreNotedBefore graphs 0 0 noted
+none_noted graphs noted long none = record {
   long = long;
-  each = λ u given at. let one = none u given at in given_none (IsCallBefore graphs 0 0 u) u given one.0 one.1 (λ site call. elim call.before [ inl lt ↦ omega (arith, lt) | inr both ↦ let lt = both.1 in omega (arith, lt) ]);
+  each = λ u calls at. let one = none u calls at in given_none (IsCallBefore graphs 0 0 u) u calls one.0 one.1 (λ site call. elim call.before [ inl lt ↦ omega (arith, lt) | inr both ↦ let lt = both.1 in omega (arith, lt) ]);
 }
 
 -- a constant that an argument always is, as the code tells it
-constant_is : (o : Option Held) (c : ℤ) → (option_map constant_held o ≡ Some (Some c)) ↔ (o ≡ Some (Always c))
+constant_is : (o : Option ArgumentState) (c : ℤ) → (option_map constant_in o ≡ Some (Some c)) ↔ (o ≡ Some (Always c))
 constant_is None c = (λ e. cc, λ e. cc)
 constant_is (Some Open) c = (λ e. cc, λ e. cc)
 constant_is (Some (Always d)) c = (λ e. let same : d ≡ c = cc in ap (λ k. Some (Always k)) same, λ e. let same : d ≡ c = cc in ap (λ k. Some (Some k)) same)
 constant_is (Some Varies) c = (λ e. cc, λ e. cc)
 
--- what is held of an argument of a unit that is not the first tells whether it is always a constant
-held_always : (CallsOf : ℕ → CallSite → Type 0) (u i : ℕ) (c : ℤ) (o : Option Held) → 1 ≤ u → IsHeldBy (CallsOf u) u i o → (o ≡ Some (Always c)) ↔ AlwaysGive CallsOf u i c
-held_always CallsOf u i c o later is = (λ e. record { later = later; some = is.always_some c e; each = is.always_each c e }, λ always. back o refl always)
+-- what is state of an argument of a unit that is not the first tells whether it is always a constant
+state_always : (CallsOf : ℕ → CallSite → Type 0) (u i : ℕ) (c : ℤ) (o : Option ArgumentState) → 1 ≤ u → IsStateBy (CallsOf u) u i o → (o ≡ Some (Always c)) ↔ AlwaysGive CallsOf u i c
+state_always CallsOf u i c o later is = (λ e. record { later = later; some = is.always_some c e; each = is.always_each c e }, λ always. back o refl always)
   where
-    back : (p : Option Held) → o ≡ p → AlwaysGive CallsOf u i c → o ≡ Some (Always c)
+    back : (p : Option ArgumentState) → o ≡ p → AlwaysGive CallsOf u i c → o ≡ Some (Always c)
     back None e always = absurd (is.varies (λ q. let off = sym e ∙ q in cc) (λ d q. let off = sym e ∙ q in cc) c always.each)
     back (Some Open) e always = absurd (not_both u i c always.some.0 always.some.2 (is.open_each e always.some.0 always.some.1))
     back (Some (Always d)) e always =
@@ -370,46 +371,46 @@ held_always CallsOf u i c o later is = (λ e. record { later = later; some = is.
     back (Some Varies) e always = absurd (is.varies (λ q. let off = sym e ∙ q in cc) (λ d q. let off = sym e ∙ q in cc) c always.each)
 
 -- so what the calls of such a unit give are its constants
-given_constants : (CallsOf : ℕ → CallSite → Type 0) (u : ℕ) (given : Given) → 1 ≤ u → IsGivenBy (CallsOf u) u given → AreConstants CallsOf u (map constant_held given.arguments.items)
-given_constants CallsOf u given later is i c = by given.called refl
+given_constants : (CallsOf : ℕ → CallSite → Type 0) (u : ℕ) (calls : NotedCalls) → 1 ≤ u → IsNotedBy (CallsOf u) u calls → AreConstants CallsOf u (map constant_in calls.arguments.items)
+given_constants CallsOf u calls later is i c = by calls.called refl
   where
-    told : slice_get (map constant_held given.arguments.items) i ≡ option_map constant_held (slice_get given.arguments.items i)
-    told = slice_get-map constant_held given.arguments.items i
+    told : slice_get (map constant_in calls.arguments.items) i ≡ option_map constant_in (slice_get calls.arguments.items i)
+    told = slice_get-map constant_in calls.arguments.items i
 
-    by : (called : Bool) → given.called ≡ called → (slice_get (map constant_held given.arguments.items) i ≡ Some (Some c)) ↔ AlwaysGive CallsOf u i c
+    by : (called : Bool) → calls.called ≡ called → (slice_get (map constant_in calls.arguments.items) i ≡ Some (Some c)) ↔ AlwaysGive CallsOf u i c
     by false off =
         let none = is.uncalled off in (
-          λ known. absurd (let e : None ≡ Some (Some c) = ap (λ l. slice_get (map constant_held l) i) (sym none.0) ∙ known in cc),
+          λ known. absurd (let e : None ≡ Some (Some c) = ap (λ l. slice_get (map constant_in l) i) (sym none.0) ∙ known in cc),
           λ always. absurd (none.1 always.some.0 always.some.1),
         )
     by true on =
-        let held = held_always CallsOf u i c (slice_get given.arguments.items i) later (is.called on i) in
-        let constant = constant_is (slice_get given.arguments.items i) c in
-        (λ known. held.0 (constant.0 (sym told ∙ known)), λ always. told ∙ constant.1 (held.1 always))
+        let state = state_always CallsOf u i c (slice_get calls.arguments.items i) later (is.called on i) in
+        let constant = constant_is (slice_get calls.arguments.items i) c in
+        (λ known. state.0 (constant.0 (sym told ∙ known)), λ always. told ∙ constant.1 (state.1 always))
 
 -- of the first no argument is always a constant
-none_constants : (CallsOf : ℕ → CallSite → Type 0) (helds : List Held) → helds ≡ [] → AreConstants CallsOf 0 (map constant_held helds)
-none_constants CallsOf helds empty i c = (
-  λ known. absurd (let e : None ≡ Some (Some c) = ap (λ l. slice_get (map constant_held l) i) (sym empty) ∙ known in cc),
+none_constants : (CallsOf : ℕ → CallSite → Type 0) (states : List ArgumentState) → states ≡ [] → AreConstants CallsOf 0 (map constant_in states)
+none_constants CallsOf states empty i c = (
+  λ known. absurd (let e : None ≡ Some (Some c) = ap (λ l. slice_get (map constant_in l) i) (sym empty) ∙ known in cc),
   λ always. absurd (let later = always.later in omega (arith, later)),
 )
 
 -- for each unit, once what is given the first is forgotten
-pub all_constants : (graphs : List GraphShape) (givens : List Given) (none : Given) → 0 < length graphs → none.arguments.items ≡ []
-    → AreGivenBefore graphs (length graphs) 0 givens → AreAllConstants graphs (slice_set givens 0 none)
-all_constants graphs givens none some empty are = record {
-  long = length-set givens 0 none ∙ are.long;
-  each = λ u given at. of u given at (cases_eq u 0);
+pub all_constants : (graphs : List GraphShape) (noted : List NotedCalls) (none : NotedCalls) → 0 < length graphs → none.arguments.items ≡ []
+    → AreNotedBefore graphs (length graphs) 0 noted → AreAllConstants graphs (slice_set noted 0 none)
+all_constants graphs noted none some empty are = record {
+  long = length-set noted 0 none ∙ are.long;
+  each = λ u calls at. of u calls at (cases_eq u 0);
 }
   where
     later : (u : ℕ) → (u ≡ 0 → ⊥) → 1 ≤ u
     later zero apart = absurd (apart refl)
     later (suc u) apart = omega arith
 
-    of : (u : ℕ) (given : Given) → slice_get (slice_set givens 0 none) u ≡ Some given → (u ≡ 0) ⊎ (u ≡ 0 → ⊥) → AreConstants (IsCallBefore graphs (length graphs) 0) u (map constant_held given.arguments.items)
-    of u given at (inl first) =
-        let both : Some none ≡ Some given = sym (set_here givens 0 none (omega (arith, some, are.long))) ∙ ap (slice_get (slice_set givens 0 none)) (sym first) ∙ at in
-        let same : none ≡ given = cc in
-        subst (λ v. AreConstants (IsCallBefore graphs (length graphs) 0) v (map constant_held given.arguments.items)) (sym first)
-        (none_constants (IsCallBefore graphs (length graphs) 0) given.arguments.items (ap (λ (g : Given). g.arguments.items) (sym same) ∙ empty))
-    of u given at (inr apart) = given_constants (IsCallBefore graphs (length graphs) 0) u given (later u apart) (are.each u given (sym (set_elsewhere givens 0 u none apart) ∙ at))
+    of : (u : ℕ) (calls : NotedCalls) → slice_get (slice_set noted 0 none) u ≡ Some calls → (u ≡ 0) ⊎ (u ≡ 0 → ⊥) → AreConstants (IsCallBefore graphs (length graphs) 0) u (map constant_in calls.arguments.items)
+    of u calls at (inl first) =
+        let both : Some none ≡ Some calls = sym (set_here noted 0 none (omega (arith, some, are.long))) ∙ ap (slice_get (slice_set noted 0 none)) (sym first) ∙ at in
+        let same : none ≡ calls = cc in
+        subst (λ v. AreConstants (IsCallBefore graphs (length graphs) 0) v (map constant_in calls.arguments.items)) (sym first)
+        (none_constants (IsCallBefore graphs (length graphs) 0) calls.arguments.items (ap (λ (g : NotedCalls). g.arguments.items) (sym same) ∙ empty))
+    of u calls at (inr apart) = given_constants (IsCallBefore graphs (length graphs) 0) u calls (later u apart) (are.each u calls (sym (set_elsewhere noted 0 u none apart) ∙ at))

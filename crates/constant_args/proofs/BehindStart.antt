@@ -18,7 +18,7 @@ use Rattle.graph_edit.specs.InsertionRuns.{values_after}
 use Rattle.graph_edit.specs.Insertions.{Insertion, InsertionsBelow}
 use Rattle.program_pass.specs.ChainLaws.{ArePlain, gone_on, stands_silently, stood_kept, stood_stands}
 use Rattle.program_pass.specs.StoodLaws.{stood_calls, stood_can}
-use Rattle.constant_args.specs.ConstantArguments.{begun, opened}
+use Rattle.constant_args.specs.ConstantArguments.{put_behind_start, opened}
 
 -- ---- one more node
 
@@ -143,9 +143,9 @@ module _ (vars : List (List ℕ)) (received : List ℕ) (nodes : List Node) (can
   new_within = let long = opened_long nodes in omega (arith, long)
 
   -- a graph can be made with the assignments
-  pub begun_can : (puts : List Insertion) → InsertionsBelow (length vars) puts → CanMake vars received (begun nodes puts)
-  begun_can [] below = can
-  begun_can (put ∷ puts) below =
+  pub behind_start_can : (puts : List Insertion) → InsertionsBelow (length vars) puts → CanMake vars received (put_behind_start nodes puts)
+  behind_start_can [] below = can
+  behind_start_can (put ∷ puts) below =
       let to = end_within in
       let long = opened_long nodes in
       let lt = to.1 in
@@ -153,40 +153,40 @@ module _ (vars : List (List ℕ)) (received : List ℕ) (nodes : List Node) (can
       stood_can vars received (opened nodes) (length nodes) (put ∷ puts) (start_succ (slice_get nodes 0)) opened_can new_within (omega (arith, any)) (to.0, omega (arith, lt, long)) below
 
   -- it makes no calls but those of the nodes
-  pub begun_calls : (puts : List Insertion) → InsertionsBelow (length vars) puts → (called count : ℕ) → NodesCall (begun nodes puts) called count → NodesCall nodes called count
-  begun_calls [] below called count c = c
-  begun_calls (put ∷ puts) below called count c =
+  pub behind_start_calls : (puts : List Insertion) → InsertionsBelow (length vars) puts → (called count : ℕ) → NodesCall (put_behind_start nodes puts) called count → NodesCall nodes called count
+  behind_start_calls [] below called count c = c
+  behind_start_calls (put ∷ puts) below called count c =
       opened_calls nodes some called count (stood_calls (length vars) (opened nodes) (length nodes) (put ∷ puts) (start_succ (slice_get nodes 0)) new_within below called count c)
 
   -- the old nodes but the first stay
-  pub begun_kept : (puts : List Insertion) (m : ℕ) → (m ≡ 0 → ⊥) → m < length nodes → slice_get (begun nodes puts) m ≡ slice_get nodes m
-  begun_kept [] m apart lt = refl
-  begun_kept (put ∷ puts) m apart lt =
+  pub behind_start_kept : (puts : List Insertion) (m : ℕ) → (m ≡ 0 → ⊥) → m < length nodes → slice_get (put_behind_start nodes puts) m ≡ slice_get nodes m
+  behind_start_kept [] m apart lt = refl
+  behind_start_kept (put ∷ puts) m apart lt =
       let long = opened_long nodes in
       stood_kept (opened nodes) (length nodes) (put ∷ puts) (start_succ (slice_get nodes 0)) m (λ same. omega (arith, same, lt)) (omega (arith, lt, long)) ∙ opened_kept nodes m apart lt
 
   -- Start leads to the assignments, and these to where it led
   pub record Leads (puts : List Insertion) : Type 0 where
     pub next : ℕ
-    pub start : slice_get (begun nodes puts) 0 ≡ Some (Start next)
+    pub start : slice_get (put_behind_start nodes puts) 0 ≡ Some (Start next)
     pub silent : (shared : ℕ) (others : List ℕ) (g : Frame) → g.place ≡ next
-        → (k : ℕ) × Silently (graph_code shared others (begun nodes puts)) k g (gone_on can.start.0 (values_after puts g.values) g) 0
+        → (k : ℕ) × Silently (graph_code shared others (put_behind_start nodes puts)) k g (gone_on can.start.0 (values_after puts g.values) g) 0
 
   -- so it does
-  pub begun_leads : (puts : List Insertion) → ArePlain puts → Leads puts
-  begun_leads [] plain = record {
+  pub behind_start_leads : (puts : List Insertion) → ArePlain puts → Leads puts
+  behind_start_leads [] plain = record {
     next = can.start.0;
     start = can.start.1;
     silent = λ shared others g here. (0, (ap (λ p. gone_on p g.values g) here, refl));
   }
-  begun_leads (put ∷ puts) plain = record {
+  behind_start_leads (put ∷ puts) plain = record {
     next = length nodes;
     start =
         let any = some in
         let long = opened_long nodes in
         stood_kept (opened nodes) (length nodes) (put ∷ puts) (start_succ (slice_get nodes 0)) 0 (λ same. omega (arith, same, any)) (omega (arith, long)) ∙ opened_start nodes some;
     silent = λ shared others g here.
-        let all = begun nodes (put ∷ puts) in
+        let all = put_behind_start nodes (put ∷ puts) in
         let stands = stood_stands (opened nodes) (length nodes) (put ∷ puts) (start_succ (slice_get nodes 0)) new_within in
         let run = stands_silently shared others all (length nodes) (length (opened nodes)) (put ∷ puts) (start_succ (slice_get nodes 0)) stands plain g here in
         (run.0, subst (λ n. Silently (graph_code shared others all) run.0 g (gone_on n (values_after (put ∷ puts) g.values) g) 0) end_is run.2);

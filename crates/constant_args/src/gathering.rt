@@ -1,30 +1,30 @@
 // What the calls of a unit give it.
 ghost use Rattle.std.specs.Prelude.{◌≡◌, ◌++◌, ◌+◌, ◌<◌, [], false, length, nat_eq, replicate, if◌then◌else◌, IfOk, OnOk};
-ghost use Rattle.constant_args.specs.declared.held.Held.TheVariants.{Open};
-ghost use Rattle.constant_args.specs.Gathered.{AreAllConstants, AreGivenBefore, CallIsWithin, CallsExist, JoinsAll, NotesCall, NotesNode, kept_vars};
+ghost use Rattle.constant_args.specs.declared.states.ArgumentState.TheVariants.{Open};
+ghost use Rattle.constant_args.specs.Gathered.{AreAllConstants, AreNotedBefore, CallIsWithin, CallsExist, JoinsArguments, NotesSite, NotesNode, kept_vars};
 
-use crate::held::{Held, joined_at};
 use crate::kept::kept_vars;
+use crate::states::{ArgumentState, joined_at};
 use flow_graph::{Graph, Node};
 use mir_base::{Memory, Operand};
 use std::alloc::Global;
 
 /// What the calls of a unit give it, as far as they are noted.
 #[derive(Drop)]
-pub(crate) struct Given {
+pub(crate) struct NotedCalls {
     /// Whether there is one.
     called: bool,
     /// What they give each argument; empty before the first call.
-    pub(crate) arguments: Vec<Held>,
+    pub(crate) arguments: Vec<ArgumentState>,
 }
 
-impl Given {
+impl NotedCalls {
     /// Nothing.
-    fn none(alloc: Global) -> Given
+    fn none(alloc: Global) -> NotedCalls
         ensures uncalled { result.called ≡ false }
         ensures empty { result.arguments.items ≡ [] }
     {
-        Given {
+        NotedCalls {
             called: false,
             arguments: Vec::new(alloc),
         }
@@ -32,50 +32,50 @@ impl Given {
 
     /// Notes a call with these operands, which passes on these variables.
     fn note(&mut self, operands: &[Operand], kept: &[Option<usize>]) -> Result<(), Memory>
-        ensures { OnOk result (NotesCall operands.now kept.now self.old self.new) }
+        ensures { OnOk result (NotesSite operands.now kept.now self.old self.new) }
     {
         if !self.called {
             open_arguments(&mut self.arguments, operands.len())?;
             self.called = true;
         }
-        join(&mut self.arguments, operands, kept);
+        join_arguments(&mut self.arguments, operands, kept);
         Ok(())
     }
 }
 
 /// For each unit what its arguments always are. It fails only with `Memory`.
-pub(crate) fn givens_of(alloc: Global, graphs: &Vec<Graph>) -> Result<Vec<Given>, Memory>
+pub(crate) fn gathered(alloc: Global, graphs: &Vec<Graph>) -> Result<Vec<NotedCalls>, Memory>
     requires { CallsExist graphs.now.items }
-    ensures { IfOk result (λ givens. AreAllConstants graphs.now.items givens.items) }
+    ensures { IfOk result (λ noted. AreAllConstants graphs.now.items noted.items) }
 {
-    let mut givens = all_given(alloc, graphs)?;
-    givens[0] = Given::none(alloc);
-    Ok(givens)
+    let mut noted = all_gathered(alloc, graphs)?;
+    noted[0] = NotedCalls::none(alloc);
+    Ok(noted)
 }
 
 /// For each unit what all calls give.
-fn all_given(alloc: Global, graphs: &Vec<Graph>) -> Result<Vec<Given>, Memory>
+fn all_gathered(alloc: Global, graphs: &Vec<Graph>) -> Result<Vec<NotedCalls>, Memory>
     requires { CallsExist graphs.now.items }
-    ensures { IfOk result (λ givens.
-        AreGivenBefore graphs.now.items (length graphs.now.items) 0 givens.items) }
+    ensures { IfOk result (λ noted.
+        AreNotedBefore graphs.now.items (length graphs.now.items) 0 noted.items) }
 {
-    let mut givens = no_givens(alloc, graphs)?;
+    let mut noted = nothing_gathered(alloc, graphs)?;
     for unit in 0..graphs.len() {
-        note_calls(alloc, graphs, unit, &mut givens)?;
+        note_calls(alloc, graphs, unit, &mut noted)?;
     }
-    Ok(givens)
+    Ok(noted)
 }
 
 /// Nothing, for each unit.
-fn no_givens(alloc: Global, graphs: &Vec<Graph>) -> Result<Vec<Given>, Memory>
-    ensures { IfOk result (λ givens. AreGivenBefore graphs.now.items 0 0 givens.items) }
+fn nothing_gathered(alloc: Global, graphs: &Vec<Graph>) -> Result<Vec<NotedCalls>, Memory>
+    ensures { IfOk result (λ noted. AreNotedBefore graphs.now.items 0 0 noted.items) }
 {
-    let mut givens = Vec::with_capacity(alloc, graphs.len())?;
+    let mut noted = Vec::with_capacity(alloc, graphs.len())?;
     for made in 0..graphs.len() {
         let _ = made;
-        givens.push(Given::none(alloc))?;
+        noted.push(NotedCalls::none(alloc))?;
     }
-    Ok(givens)
+    Ok(noted)
 }
 
 /// Notes the calls of the graph of this unit.
@@ -83,17 +83,17 @@ fn note_calls(
     alloc: Global,
     graphs: &Vec<Graph>,
     unit: usize,
-    givens: &mut Vec<Given>,
+    noted: &mut Vec<NotedCalls>,
 ) -> Result<(), Memory>
     requires exist { CallsExist graphs.now.items }
     requires there { unit < length graphs.now.items }
-    requires given { AreGivenBefore graphs.now.items unit 0 givens.old.items }
-    ensures { OnOk result (AreGivenBefore graphs.now.items (unit + 1) 0 givens.new.items) }
+    requires before { AreNotedBefore graphs.now.items unit 0 noted.old.items }
+    ensures { OnOk result (AreNotedBefore graphs.now.items (unit + 1) 0 noted.new.items) }
 {
     let graph = &graphs[unit];
     let kept = kept_vars(alloc, graph)?;
     for n in 0..graph.len() {
-        note_node(graph.node(n), unit, kept.as_slice(), givens)?;
+        note_node(graph.node(n), unit, kept.as_slice(), noted)?;
     }
     Ok(())
 }
@@ -103,15 +103,15 @@ fn note_node(
     node: &Node,
     unit: usize,
     kept: &[Option<usize>],
-    givens: &mut Vec<Given>,
+    noted: &mut Vec<NotedCalls>,
 ) -> Result<(), Memory>
-    requires { CallIsWithin node.now (length givens.old.items) }
-    ensures { OnOk result (NotesNode node.now unit kept.now givens.old.items givens.new.items) }
+    requires { CallIsWithin node.now (length noted.old.items) }
+    ensures { OnOk result (NotesNode node.now unit kept.now noted.old.items noted.new.items) }
 {
     match node {
         Node::Call(_, called, operands, _) => {
             let passed = passed_to(*called, unit, kept);
-            givens[*called].note(operands.items(), passed)?;
+            noted[*called].note(operands.items(), passed)?;
             Ok(())
         }
         _ => Ok(()),
@@ -126,24 +126,24 @@ fn passed_to<'a>(called: usize, unit: usize, kept: &'a [Option<usize>]) -> &'a [
 }
 
 /// Adds so many arguments of which nothing is known.
-fn open_arguments(arguments: &mut Vec<Held>, count: usize) -> Result<(), Memory>
+fn open_arguments(arguments: &mut Vec<ArgumentState>, count: usize) -> Result<(), Memory>
     ensures { OnOk result
         (arguments.new.items ≡ arguments.old.items ++ replicate count Open) }
 {
     for opened in 0..count {
         let _ = opened;
-        arguments.push(Held::Open)?;
+        arguments.push(ArgumentState::Open)?;
     }
     Ok(())
 }
 
-/// Joins what a call with these operands, which passes on these variables, gives each argument.
-fn join(arguments: &mut Vec<Held>, operands: &[Operand], kept: &[Option<usize>])
-    ensures { JoinsAll (length arguments.old.items) operands.now kept.now
+/// JoinsOperand what a call with these operands, which passes on these variables, gives each argument.
+fn join_arguments(arguments: &mut Vec<ArgumentState>, operands: &[Operand], kept: &[Option<usize>])
+    ensures { JoinsArguments (length arguments.old.items) operands.now kept.now
         arguments.old.items arguments.new.items }
 {
     for i in 0..arguments.len() {
-        let held = joined_at(arguments[i], operands, kept, i);
-        arguments[i] = held;
+        let state = joined_at(arguments[i], operands, kept, i);
+        arguments[i] = state;
     }
 }

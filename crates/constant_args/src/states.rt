@@ -1,0 +1,105 @@
+// What calls give one argument, as they are noted one after the other.
+ghost use Rattle.std.specs.Prelude.{◌≡◌, ◌↔◌, slice_get, IsTrue, None, Some};
+ghost use Rattle.mir_base.specs.declared.instructions.Operand.TheVariants.{Const, Var};
+ghost use Rattle.constant_args.specs.Gathered.{IsPassed, JoinsOperand, JoinsArgument, constant_in};
+
+use mir_base::Operand;
+
+/// What the calls of a unit that are noted give one of its arguments.
+#[derive(Clone, Copy)]
+pub(crate) enum ArgumentState {
+    /// Each passes on what the unit itself was given.
+    Open,
+    /// Each gives this constant, or passes on what the unit itself was given.
+    Always(i64),
+    /// Neither.
+    Varies,
+}
+
+/// The constant, where there is one.
+pub(crate) fn constant_in(state: ArgumentState) -> Option<i64>
+    ensures { result ≡ constant_in state }
+{
+    match state {
+        ArgumentState::Open => None,
+        ArgumentState::Always(constant) => Some(constant),
+        ArgumentState::Varies => None,
+    }
+}
+
+/// What one call more makes of it, which has these operands and passes on these variables; argument `i` is told of.
+pub(crate) fn joined_at(
+    state: ArgumentState,
+    operands: &[Operand],
+    kept: &[Option<usize>],
+    i: usize,
+) -> ArgumentState
+    ensures { JoinsArgument operands.now kept.now i state result }
+{
+    if passes_on(operands, kept, i) {
+        state
+    } else {
+        joined(state, operands, i)
+    }
+}
+
+/// Whether operand `i` is the variable that passes argument `i` on.
+fn passes_on(operands: &[Operand], kept: &[Option<usize>], i: usize) -> bool
+    ensures { IsTrue result ↔ IsPassed operands.now kept.now i }
+{
+    match kept.get(i) {
+        None => false,
+        Some(None) => false,
+        Some(Some(x)) => operand_is_var(operands, i, *x),
+    }
+}
+
+/// Whether operand `i` is this variable.
+fn operand_is_var(operands: &[Operand], i: usize, x: usize) -> bool
+    ensures { IsTrue result ↔ (slice_get operands.now i ≡ Some (Var x)) }
+{
+    match operands.get(i) {
+        None => false,
+        Some(Operand::Var(other)) => *other == x,
+        Some(Operand::Const(_)) => false,
+    }
+}
+
+/// What an operand that is not passed on makes of it.
+fn joined(state: ArgumentState, operands: &[Operand], i: usize) -> ArgumentState
+    ensures { JoinsOperand state (slice_get operands.now i) result }
+{
+    match state {
+        ArgumentState::Open => first_state(operands, i),
+        ArgumentState::Always(constant) => {
+            if operand_is_constant(operands, i, constant) {
+                state
+            } else {
+                ArgumentState::Varies
+            }
+        }
+        ArgumentState::Varies => ArgumentState::Varies,
+    }
+}
+
+/// What is state where operand `i` alone counts.
+fn first_state(operands: &[Operand], i: usize) -> ArgumentState
+    ensures { JoinsOperand ArgumentState.Open (slice_get operands.now i) result }
+{
+    match operands.get(i) {
+        None => ArgumentState::Varies,
+        Some(Operand::Var(_)) => ArgumentState::Varies,
+        Some(Operand::Const(constant)) => ArgumentState::Always(*constant),
+    }
+}
+
+/// Whether operand `i` is this constant.
+fn operand_is_constant(operands: &[Operand], i: usize, constant: i64) -> bool
+    ensures { IsTrue result ↔ (slice_get operands.now i ≡ Some (Const constant)) }
+{
+    match operands.get(i) {
+        None => false,
+        Some(Operand::Var(_)) => false,
+        Some(Operand::Const(other)) => *other == constant,
+    }
+}
