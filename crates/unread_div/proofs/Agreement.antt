@@ -33,7 +33,7 @@ use Rattle.graph_edit.specs.Insertions.{changed}
 use Rattle.dead_code.specs.Liveness.{IsLiveAfter, IsLiveBefore}
 use Rattle.dead_code.specs.Pruned.{pruned_from, removed_if}
 use Rattle.dead_code.specs.PrunedLaws.{live_back, live_read, pruned_get}
-use Rattle.unread_div.proofs.RunSteps.{cheaper_in_runs, same_in_runs}
+use Rattle.extend_flow.specs.RunSteps.{cheaper_in_runs, same_in_runs}
 
 -- ---- what is read
 
