@@ -65,7 +65,7 @@ COMMANDS = ('optimise', 'thorough', 'move', 'divisions', 'tails', 'join')
 # Turns of fewer passes than `thorough` makes, and of one more, until one changes nothing; and the most that are made.
 TURNS = {'turns': 'tails join optimise called', 'wanted': 'tails join optimise wanted called',
          'demanded': 'tails join optimise demanded called',
-         'comparisons': 'tails join optimise comparisons demanded bounds called'}
+         'comparisons': 'tails join arguments optimise comparisons terms demanded bounds extensions unread called'}
 MOST_TURNS = 16
 # Native programs end by themselves after a part of a second, which a busy machine gives them late.
 STEPS, SECONDS = 1_000_000, 600

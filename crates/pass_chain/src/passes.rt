@@ -4,7 +4,8 @@ ghost use Rattle.program_pass.specs.PassPrograms.{IsOnly, KeepsRuns, Rewrites};
 ghost use Rattle.pass_chain.specs.Passes.{IsPassedBy};
 
 use crate::graph_passes::{
-    Bounding, Cleaning, Combining, Comparing, Copying, Extending, Folding, Narrowing, Numbering, Omitting, Sinking,
+    Bounding, Cleaning, Combining, Comparing, Copying, Extending, Folding, Narrowing, Numbering,
+    Omitting, Sinking,
 };
 use crate::over_units::program_through;
 use crate::whole::{

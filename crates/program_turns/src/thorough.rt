@@ -82,7 +82,8 @@ fn turns_behind(alloc: Global, first: Turn) -> Result<Program, Memory>
 /// run.
 fn turn_behind(alloc: Global, last: &Turn) -> Result<Option<Turn>, Memory>
     requires { Rewrites (IsChained second_half) last.now.half last.now.whole }
-    ensures { IfOk result (λ next. MatchOption next (Rewrites (IsChained turn) last.now.whole last.now.whole)
+    ensures { IfOk result (λ next. MatchOption next
+        (Rewrites (IsChained turn) last.now.whole last.now.whole)
         (λ next. ChangesBy last.now.whole next.half next.whole)) }
 {
     let half = chain_program(alloc, &FIRST_HALF, &last.whole)?;

@@ -1,4 +1,3 @@
 pub mod Agreement
 pub mod Flagging
-pub mod RunSteps
 pub mod Shapes

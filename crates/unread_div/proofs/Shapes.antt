@@ -1,6 +1,6 @@
--- The graph without the divisions that nothing reads keeps what the graph has: it does the same, evaluates no more operators,
--- makes no other calls, has its edges, and each other division.
-use Rattle.std.proofs.Common.{◌≡◌, ◌⊎◌, ℕ, ◌+◌, ◌<◌, ◌&&◌, Bool, true, false, List, length, slice_get, ℤ, pos, Option, Some, None, option_map, inl, inr, refl, sym, ap, ◌∙◌, subst, zero-add}
+-- The graph without the divisions that nothing reads keeps what the graph has: it does the same, evaluates no more
+-- operators, makes no other calls, has its edges, and each other division.
+use Rattle.std.proofs.Common.{◌≡◌, ℕ, ◌&&◌, Bool, true, false, List, length, slice_get, ℤ, pos, Option, Some, None, option_map, inl, inr, refl, sym, ap, ◌∙◌, subst, zero-add}
 use Rattle.std.proofs.lemmas.Bool.{cases_Bool, true≢false}
 use Rattle.std.proofs.lemmas.Option.{same_Some, slice_get_within}
 use Rattle.mir_base.specs.declared.instructions.Operand.{Operand}
@@ -15,7 +15,6 @@ use Rattle.mir_base.specs.Units.{operand_value}
 use Rattle.flow_graph.specs.declared.nodes.Node.{Node}
 use Rattle.flow_graph.specs.declared.nodes.Node.TheVariants.{Assign}
 use Rattle.flow_graph.specs.Calls.{NodesCall}
-use Rattle.flow_graph.specs.Dividing.{DividesOf}
 use Rattle.flow_graph.specs.Edges.{IsSplit}
 use Rattle.flow_graph.specs.Graphs.{GraphShape, IsGraph, succs_of}
 use Rattle.flow_graph.specs.KeepsLaws.{same_globals}
@@ -34,11 +33,10 @@ use Rattle.dead_code.specs.PrunedLaws.{pruned_get, pruned_rewritten}
 use Rattle.dead_code.specs.Removal.{removing}
 use Rattle.zero_flow.specs.declared.facts.ZeroFact.{ZeroFact}
 use Rattle.zero_flow.specs.EdgeLaws.{of_holds}
-use Rattle.zero_flow.specs.PairLaws.{zero_is}
 use Rattle.zero_flow.specs.ZeroFacts.{BelowZeroFact, ZeroFactHolds, allows, is_zero}
 use Rattle.zero_flow.specs.ZeroRules.{zero_rules}
 use Rattle.zero_flow.specs.Zeros.{zero_of}
-use Rattle.unread_div.specs.Unread.{IsDeadDivision, IsNeverZero, IsUnneeded, IsUnread, IsUnreadAt, KeepsReadDivisions, KeepsSplit, KeepsSuccs, may_be_nought_before}
+use Rattle.unread_div.specs.Unread.{IsDeadDivision, IsNeverZero, IsUnread, IsUnreadAt, KeepsReadDivisions, KeepsSplit, KeepsSuccs, may_be_nought_before}
 use Rattle.unread_div.proofs.Agreement.{MayGo, lessened_cheaper, lessened_same}
 
 -- ---- what is never 0
@@ -49,14 +47,17 @@ other_holds fact true off on = absurd (true≢false (sym on ∙ off))
 other_holds fact false off on = refl
 
 -- what is never 0 by what is known is not 0 where that holds
-known_never : (size : ℕ) (known : Option (List ZeroFact)) (b : Operand) (values : Values) → may_be_nought_before known b ≡ false
+known_never : (size : ℕ) (known : Option (List ZeroFact)) (b : Operand) (values : Values)
+    → may_be_nought_before known b ≡ false
     → HoldsAt ZeroFactHolds zero_rules (state_of_known size known) values → is_zero (operand_value values b) ≡ false
 known_never size None b values off held = absurd held
-known_never size (Some known) b values off held = other_holds (zero_of known b) (is_zero (operand_value values b)) off (of_holds known values b held)
+known_never size (Some known) b values off held =
+    other_holds (zero_of known b) (is_zero (operand_value values b)) off (of_holds known values b held)
 
 module _ (graph : GraphShape) (hold : StatesHold BelowZeroFact ZeroFactHolds zero_rules graph) where
   -- so it is not 0 in a run that comes there
-  never_zero : (n : ℕ) (b : Operand) → IsNeverZero graph n b → (f : Frame) → IsRunFrame (machine_of graph) f → f.place ≡ n → is_zero (operand_value f.values b) ≡ false
+  never_zero : (n : ℕ) (b : Operand) → IsNeverZero graph n b → (f : Frame) → IsRunFrame (machine_of graph) f
+      → f.place ≡ n → is_zero (operand_value f.values b) ≡ false
   never_zero n b never f of_run there =
       let is = never.is_known in
       known_never (length graph.vars) never.known b f.values never.never
@@ -67,13 +68,15 @@ module _ (graph : GraphShape) (hold : StatesHold BelowZeroFact ZeroFactHolds zer
   is_other z off e = true≢false (sym (ap is_zero e) ∙ off)
 
   -- an unread division is one node
-  unread_is : (n x : ℕ) (rhs : Rhs) (next : ℕ) → slice_get graph.nodes n ≡ Some (Assign x rhs next) → (d : IsDeadDivision graph n)
+  unread_is : (n x : ℕ) (rhs : Rhs) (next : ℕ) → slice_get graph.nodes n ≡ Some (Assign x rhs next)
+      → (d : IsDeadDivision graph n)
       → (d.var ≡ x) × (Binary d.op d.left d.right ≡ rhs)
   unread_is n x rhs next here d =
       let same : Assign d.var (Binary d.op d.left d.right) d.next ≡ Assign x rhs next = same_Some (Assign d.var (Binary d.op d.left d.right) d.next) (Assign x rhs next) (sym d.is ∙ here) in
       (cc, cc)
 
-  module _ (is_graph : IsGraph graph.vars graph.received graph.nodes) (lessened : GraphShape) (p : IsUnread graph lessened) where
+  module _ (is_graph : IsGraph graph.vars graph.received graph.nodes) (lessened : GraphShape)
+      (p : IsUnread graph lessened) where
     abbrev gone : ℕ → Bool
     gone = p.gone
 
@@ -81,7 +84,8 @@ module _ (graph : GraphShape) (hold : StatesHold BelowZeroFact ZeroFactHolds zer
     after = pruned_from gone 0 graph.nodes
 
     -- what is flagged goes
-    goes : (n x : ℕ) (rhs : Rhs) (next : ℕ) → gone n ≡ true → slice_get graph.nodes n ≡ Some (Assign x rhs next) → IsUnreadAt graph n
+    goes : (n x : ℕ) (rhs : Rhs) (next : ℕ) → gone n ≡ true → slice_get graph.nodes n ≡ Some (Assign x rhs next)
+        → IsUnreadAt graph n
     goes n x rhs next on here = (p.gone_are n (slice_get_within graph.nodes n (Assign x rhs next) here)).0 on
 
     may_go : MayGo graph p.gone
@@ -123,7 +127,8 @@ module _ (graph : GraphShape) (hold : StatesHold BelowZeroFact ZeroFactHolds zer
       globals = same_globals graph lessened (sym shared_is) (ap (λ (g : GraphShape). g.vars) p.is);
       same = subst (UnitSame (machine_of graph)) machine_is (lessened_same graph is_graph.can gone may_go);
       cheaper = subst (UnitCheaper (machine_of graph)) machine_is (lessened_cheaper graph is_graph.can gone may_go);
-      calls = λ called count c. rewritten_calls (removing (λ n. removed_if (p.gone n))) graph.nodes called count (subst (λ l. NodesCall l called count) (sym raw_is) c);
+      calls =
+          λ called count c. rewritten_calls (removing (λ n. removed_if (p.gone n))) graph.nodes called count (subst (λ l. NodesCall l called count) (sym raw_is) c);
     }
 
     pub lessened_split : KeepsSplit graph lessened
@@ -131,7 +136,8 @@ module _ (graph : GraphShape) (hold : StatesHold BelowZeroFact ZeroFactHolds zer
         subst IsSplit raw_is (rewritten_split (removing (λ n. removed_if (p.gone n))) graph.nodes (λ m slot s edge. (is_graph.can.succs m slot s edge).1) split)
 
     -- what stands at a place
-    node_is : (n : ℕ) → slice_get lessened.nodes n ≡ option_map (changed (removed_if (gone n))) (slice_get graph.nodes n)
+    node_is : (n : ℕ)
+        → slice_get lessened.nodes n ≡ option_map (changed (removed_if (gone n))) (slice_get graph.nodes n)
     node_is n =
         ap (λ (l : List Node). slice_get l n) nodes_are ∙ pruned_get gone graph.nodes 0 n
         ∙ ap (λ m. option_map (changed (removed_if (gone m))) (slice_get graph.nodes n)) (zero-add n)
@@ -151,12 +157,14 @@ module _ (graph : GraphShape) (hold : StatesHold BelowZeroFact ZeroFactHolds zer
           let same_right : u.division.right ≡ right = right_of u.division.op op u.division.left left u.division.right right same.1 in
           inr (record {
             dead = subst (λ y. ¬ (IsLiveAfter graph y n)) same.0 u.division.dead;
-            safe = λ f of_run there. is_other (operand_value f.values right) (never_zero n right (subst (IsNeverZero graph n) same_right u.safe) f of_run there);
+            safe =
+                λ f of_run there. is_other (operand_value f.values right) (never_zero n right (subst (IsNeverZero graph n) same_right u.safe) f of_run there);
           })
       | inr off ↦
           inl (record {
             next = of.next;
-            is = node_is n ∙ ap (λ b. option_map (changed (removed_if b)) (slice_get graph.nodes n)) off ∙ ap (option_map (changed (removed_if false))) of.is ∙ ap Some (changed_not (Assign x (Binary op left right) of.next));
+            is =
+                node_is n ∙ ap (λ b. option_map (changed (removed_if b)) (slice_get graph.nodes n)) off ∙ ap (option_map (changed (removed_if false))) of.is ∙ ap Some (changed_not (Assign x (Binary op left right) of.next));
             may_trap = of.may_trap;
           })
     ]

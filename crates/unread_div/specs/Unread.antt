@@ -6,7 +6,6 @@ use Rattle.mir_base.specs.declared.operators.Op.{Op}
 use Rattle.mir_base.specs.Frames.{Frame}
 use Rattle.mir_base.specs.Numbers.{is_dividing}
 use Rattle.mir_base.specs.Units.{operand_value}
-use Rattle.flow_graph.specs.declared.nodes.Node.{Node}
 use Rattle.flow_graph.specs.declared.nodes.Node.TheVariants.{Assign}
 use Rattle.flow_graph.specs.Dividing.{DividesOf}
 use Rattle.flow_graph.specs.Edges.{IsSplit}

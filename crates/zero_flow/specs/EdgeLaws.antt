@@ -21,7 +21,7 @@ use Rattle.zero_flow.specs.declared.facts.ZeroFact.TheVariants.{Zero, NotZero, A
 use Rattle.zero_flow.specs.ZeroFacts.{BelowZeroFact, ZeroFactHolds, is_zero}
 use Rattle.zero_flow.specs.FactLaws.{fact_refl}
 use Rattle.zero_flow.specs.PairLaws.{left_holds, left_rises, may_holds, may_rises, right_holds, right_rises, zeros_hold, zeros_rise, zeros_un_hold, zeros_un_rise}
-use Rattle.zero_flow.specs.Zeros.{Comparison, comparison, with_zero, zero_at, zero_of, zero_of_number, zero_of_rhs, zeros_along, zeros_go, zeros_where}
+use Rattle.zero_flow.specs.Zeros.{Comparison, comparison, with_zero, zero_at, zero_of, zero_of_number, zero_of_rhs, zeros_along, zeros_go}
 use Rattle.zero_flow.specs.ZeroRules.{zero_rules}
 
 -- variable by variable
@@ -63,19 +63,22 @@ below_with xs ys (Var x) k k' p q = below_set xs ys x k k' p q
 below_with xs ys (Const c) k k' p q = p
 
 -- a right side
-pub rhs_rises : (rhs : Rhs) (xs ys : List ZeroFact) → BelowZeros xs ys → BelowZeroFact (zero_of_rhs xs rhs) (zero_of_rhs ys rhs)
+pub rhs_rises : (rhs : Rhs) (xs ys : List ZeroFact) → BelowZeros xs ys
+    → BelowZeroFact (zero_of_rhs xs rhs) (zero_of_rhs ys rhs)
 rhs_rises (Plain a) xs ys p = below_of xs ys a p
 rhs_rises (Unary op a) xs ys p = zeros_un_rise op _ _ (below_of xs ys a p)
 rhs_rises (Binary op a b) xs ys p = zeros_rise op _ _ _ _ (below_of xs ys a p) (below_of xs ys b p)
 
 -- whether a test may go
-pub go_rises : (test : tests.Test) (b : Bool) (xs ys : List ZeroFact) → BelowZeros xs ys → zeros_go test b xs ≡ true → zeros_go test b ys ≡ true
+pub go_rises : (test : tests.Test) (b : Bool) (xs ys : List ZeroFact) → BelowZeros xs ys → zeros_go test b xs ≡ true
+    → zeros_go test b ys ≡ true
 go_rises test b xs ys p may =
     let c : Comparison = comparison test in
     may_rises c.op b _ _ _ _ (below_of xs ys c.left p) (below_of xs ys c.right p) may
 
 -- and what passes along its edges
-pub along_rises : (test : tests.Test) (b : Bool) (xs ys : List ZeroFact) → BelowZeros xs ys → BelowZeros (zeros_along test b xs) (zeros_along test b ys)
+pub along_rises : (test : tests.Test) (b : Bool) (xs ys : List ZeroFact) → BelowZeros xs ys
+    → BelowZeros (zeros_along test b xs) (zeros_along test b ys)
 along_rises test b xs ys p =
     let c : Comparison = comparison test in
     let left = below_of xs ys c.left p in
@@ -92,7 +95,8 @@ number_holds z true e = e
 number_holds z false e = ap not e
 
 -- of an operand
-pub of_holds : (facts : List ZeroFact) (values : Values) (a : Operand) → ZerosHold facts values → ZeroFactHolds (zero_of facts a) (operand_value values a)
+pub of_holds : (facts : List ZeroFact) (values : Values) (a : Operand) → ZerosHold facts values
+    → ZeroFactHolds (zero_of facts a) (operand_value values a)
 of_holds facts values (Var x) h = h.each x
 of_holds facts values (Const c) h = number_holds (wrapped c) (is_zero (wrapped c)) refl
 
@@ -100,18 +104,24 @@ of_holds facts values (Const c) h = number_holds (wrapped c) (is_zero (wrapped c
 pub rhs_holds : (facts : List ZeroFact) (values : Values) (rhs : Rhs) → ZerosHold facts values → ValuesFit values
     → rhs_traps values rhs ≡ false → ZeroFactHolds (zero_of_rhs facts rhs) (rhs_value values rhs)
 rhs_holds facts values (Plain a) h fits safe = of_holds facts values a h
-rhs_holds facts values (Unary op a) h fits safe = zeros_un_hold op _ _ (operand_fits values a fits) (of_holds facts values a h)
+rhs_holds facts values (Unary op a) h fits safe =
+    zeros_un_hold op _ _ (operand_fits values a fits) (of_holds facts values a h)
 rhs_holds facts values (Binary op a b) h fits safe =
     zeros_hold op _ _ _ _ (operand_fits values a fits) (operand_fits values b fits) (of_holds facts values a h)
     (of_holds facts values b h) safe
 
 -- facts that hold still do where one of them is replaced by one that holds
-set_holds : (facts : List ZeroFact) (values : Values) (x : ℕ) (k : ZeroFact) → ZerosHold facts values → ZeroFactHolds k (values x)
+set_holds : (facts : List ZeroFact) (values : Values) (x : ℕ) (k : ZeroFact) → ZerosHold facts values
+    → ZeroFactHolds k (values x)
     → ZerosHold (slice_set facts x k) values
 set_holds facts values x k h here =
-    record { each = λ y. among facts x y (values y) (h.each y) (λ same. subst (λ z. ZeroFactHolds k (values z)) (sym same) here) }
+    record {
+      each =
+          λ y. among facts x y (values y) (h.each y) (λ same. subst (λ z. ZeroFactHolds k (values z)) (sym same) here);
+    }
   where
-    among : (facts : List ZeroFact) (x y : ℕ) (v : ℤ) → ZeroFactHolds (zero_at facts y) v → (y ≡ x → ZeroFactHolds k v)
+    among : (facts : List ZeroFact) (x y : ℕ) (v : ℤ) → ZeroFactHolds (zero_at facts y) v
+        → (y ≡ x → ZeroFactHolds k v)
         → ZeroFactHolds (zero_at (slice_set facts x k) y) v
     among [] x y v old new = old
     among (f ∷ facts) zero zero v old new = new refl
@@ -135,13 +145,15 @@ test_is values (Rel op a b) = refl
 test_is values (Holds a) = ap (λ z. not (int_eq (operand_value values a) z)) (int_wrap_fits w64 (pos 0) zero_fits)
 test_is values (Fails a) = ap (λ z. int_eq (operand_value values a) z) (int_wrap_fits w64 (pos 0) zero_fits)
 
-module _ (test : tests.Test) (b : Bool) (facts : List ZeroFact) (values : Values) (h : ZerosHold facts values) (is : test_holds values test ≡ b) where
+module _ (test : tests.Test) (b : Bool) (facts : List ZeroFact) (values : Values) (h : ZerosHold facts values)
+    (is : test_holds values test ≡ b) where
   abbrev c : Comparison
   c = comparison test
 
   -- a test may go where it goes
   pub go_holds : zeros_go test b facts ≡ true
-  go_holds = may_holds c.op b _ _ _ _ (of_holds facts values c.left h) (of_holds facts values c.right h) (test_is values test ∙ is)
+  go_holds =
+      may_holds c.op b _ _ _ _ (of_holds facts values c.left h) (of_holds facts values c.right h) (test_is values test ∙ is)
 
   -- and what passes there holds
   pub along_holds : ZerosHold (zeros_along test b facts) values

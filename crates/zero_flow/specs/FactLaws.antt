@@ -1,5 +1,5 @@
 -- Facts of 0 are ordered and have joins. For proofs only.
-use Rattle.std.proofs.Common.{◌≡◌, ◌<◌, ◌≤◌, ◌⊎◌, inl, inr, Bool, true, false, ◌||◌, ◌&&◌, if◌then◌else◌, refl, sym, ap, ◌∙◌, arith}
+use Rattle.std.proofs.Common.{◌≡◌, ◌<◌, ◌≤◌, ◌⊎◌, inl, inr, Bool, true, false, ◌||◌, if◌then◌else◌, refl, sym, ap, ◌∙◌, arith}
 use Rattle.fix_solve.specs.Order.{IsLeastUpper}
 use Rattle.cond_flow.specs.Rules.{OrderRules}
 use Rattle.zero_flow.specs.declared.facts.ZeroFact.{ZeroFact}
@@ -51,7 +51,8 @@ fact_is NotZero = refl
 fact_is Any = refl
 
 -- a join allows what either allows
-pub allows_joined : (x y : ZeroFact) (nought : Bool) → allows (joined_zero_fact x y) nought ≡ (allows x nought || allows y nought)
+pub allows_joined : (x y : ZeroFact) (nought : Bool)
+    → allows (joined_zero_fact x y) nought ≡ (allows x nought || allows y nought)
 allows_joined x y true = allows_where (allows x true || allows y true) (allows x false || allows y false) true
 allows_joined x y false = allows_where (allows x true || allows y true) (allows x false || allows y false) false
 
@@ -104,7 +105,8 @@ fact_joins : (x y : ZeroFact) → IsLeastUpper BelowZeroFact x y (joined_zero_fa
 fact_joins x y = record {
   left = λ nought h. allows_joined x y nought ∙ or_left (allows x nought) (allows y nought) h;
   right = λ nought h. allows_joined x y nought ∙ or_right (allows x nought) (allows y nought) h;
-  least = λ w p q nought h. or_cases (allows x nought) (allows y nought) (sym (allows_joined x y nought) ∙ h) (p nought) (q nought);
+  least =
+      λ w p q nought h. or_cases (allows x nought) (allows y nought) (sym (allows_joined x y nought) ∙ h) (p nought) (q nought);
 }
 
 -- all together

@@ -1,13 +1,10 @@
 -- The facts of results hold and rise, and so does whether a relation may hold. For proofs only.
-use Rattle.std.proofs.Common.{◌≡◌, ℕ, zero, suc, ◌<◌, ◌^◌, ◌/◌, Bool, true, false, not, ◌&&◌, ◌||◌, if◌then◌else◌, ℤ, pos, negsuc, neg_ℤ, ◌+ℤ◌, ◌-ℤ◌, ◌*ℤ◌, refl, sym, ap, ◌∙◌, subst, arith, FitsSigned, w64, to_z, of_z, to_z-of_z, pow_pos, int_lt, int_le, int_rem, int_div, bit_and, bit_or, bit_xor}
+use Rattle.std.proofs.Common.{◌≡◌, suc, ◌<◌, ◌^◌, Bool, true, false, not, ◌&&◌, ◌||◌, if◌then◌else◌, ℤ, pos, negsuc, neg_ℤ, ◌+ℤ◌, ◌-ℤ◌, ◌*ℤ◌, refl, sym, ap, ◌∙◌, arith, FitsSigned, w64, to_z, of_z, to_z-of_z, int_lt, int_le, int_rem, int_div, bit_or}
 use Rattle.std.specs.Ordering.{int_eq}
-use Rattle.std.specs.Int.{int_div_euclid}
 use Rattle.std.specs.Int.Bits.{and_zero_r, or_zero_r, xor_zero_r, or_lt}
-use Rattle.std.proofs.lemmas.Bool.{cases_Bool}
 use Rattle.std.proofs.lemmas.Int.{ints, int_wrap_fits, int_wrap-add_same}
 use Rattle.std.proofs.lemmas.Nat.{and_comm, le_or_l, le_or_r, xor_comm}
 use Rattle.std.proofs.Math.Facts.{Fits-lt-pow, Fits-of_lt, Fits-of_z, of_z-to_z}
-use Rattle.std.proofs.Math.IntN.{+ℤ_comm, *ℤ_comm}
 use Rattle.std.proofs.Math.Nat.{zero-div}
 use Rattle.mir_base.specs.declared.operators.Op.{Op}
 use Rattle.mir_base.specs.declared.operators.Op.TheVariants.{Add, Sub, Mul, Div, Mod, Min, Max, Eq, Ne, Lt, Le, Gt, Ge, Shl, Shr, Shra, And, Or, Xor}
@@ -19,8 +16,8 @@ use Rattle.mir_base.specs.Numbers.{distance, relation_holds, traps, truth, unsig
 use Rattle.mir_base.specs.NumberLaws.{zero_fits}
 use Rattle.mir_base.specs.WordLaws.{or_is, xor_is}
 use Rattle.zero_flow.specs.declared.facts.ZeroFact.{ZeroFact}
-use Rattle.zero_flow.specs.declared.facts.ZeroFact.TheVariants.{Never, Zero, NotZero, Any}
-use Rattle.zero_flow.specs.ZeroFacts.{BelowZeroFact, ZeroFactHolds, allows, fact_where, is_zero, joined_zero_fact}
+use Rattle.zero_flow.specs.declared.facts.ZeroFact.TheVariants.{Zero, NotZero, Any}
+use Rattle.zero_flow.specs.ZeroFacts.{BelowZeroFact, ZeroFactHolds, allows, is_zero}
 use Rattle.zero_flow.specs.Pairs.{any_of, by_zeros, divided, left_fact, may_left, may_relate, may_right, not_both, op_pair, over, relation_pair, right_fact, same_zeros, shifted, un_pair, where_allowed, zeros_of, zeros_of_un}
 use Rattle.zero_flow.specs.FactLaws.{allows_joined, allows_where, fact_refl, or_cases, or_left, or_right}
 
@@ -173,7 +170,8 @@ times_nought : (a b : ℤ) → b ≡ pos 0 → wrapped (a *ℤ b) ≡ pos 0
 times_nought a b p = ap (λ z. wrapped (a *ℤ z)) p ∙ wraps_to (a *ℤ pos 0) (pos 0) (omega (arith, ints)) zero_fits
 
 -- a quotient or a remainder, where that of 0 is 0
-divided_holds : (a b v : ℤ) → is_zero b ≡ false → (a ≡ pos 0 → v ≡ pos 0) → ZeroFactHolds (divided (is_zero a) (is_zero b)) v
+divided_holds : (a b v : ℤ) → is_zero b ≡ false → (a ≡ pos 0 → v ≡ pos 0)
+    → ZeroFactHolds (divided (is_zero a) (is_zero b)) v
 divided_holds a b v safe is = by (is_zero a) (is_zero b) refl refl
   where
     by : (i j : Bool) → is_zero a ≡ i → is_zero b ≡ j → ZeroFactHolds (divided i j) v
@@ -287,7 +285,8 @@ op_pair_holds Xor a b fits fits' safe =
     (λ p q. refl)
 
 -- the same of an operator on one number
-un_pair_holds : (op : UnOp) (a : ℤ) → FitsSigned w64 a → ZeroFactHolds (un_pair op (is_zero a)) (value_of_un_op op a)
+un_pair_holds : (op : UnOp) (a : ℤ) → FitsSigned w64 a
+    → ZeroFactHolds (un_pair op (is_zero a)) (value_of_un_op op a)
 un_pair_holds Neg a fits = by (is_zero a) refl
   where
     by : (i : Bool) → is_zero a ≡ i → ZeroFactHolds (un_pair Neg i) (wrapped (neg_ℤ a))
@@ -323,10 +322,12 @@ differ : {C : Type 0} (t : Bool) → t ≡ true → t ≡ false → C
 differ t p q = let bad : true ≡ false = sym p ∙ q in cc
 
 -- a relation may have the truth value that it has
-relation_pair_holds : (op : RelOp) (t : Bool) (a b : ℤ) → relation_holds op a b ≡ t → relation_pair op t (is_zero a) (is_zero b) ≡ true
+relation_pair_holds : (op : RelOp) (t : Bool) (a b : ℤ) → relation_holds op a b ≡ t
+    → relation_pair op t (is_zero a) (is_zero b) ≡ true
 relation_pair_holds Equal true a b e = same_holds a b (eq_is a b e)
 relation_pair_holds Equal false a b e = not_both_holds a b (λ p q. differ (int_eq a b) (eq_zeros a b p q) e)
-relation_pair_holds Differ true a b e = not_both_holds a b (λ p q. differ (not (int_eq a b)) e (ap not (eq_zeros a b p q)))
+relation_pair_holds Differ true a b e =
+    not_both_holds a b (λ p q. differ (not (int_eq a b)) e (ap not (eq_zeros a b p q)))
 relation_pair_holds Differ false a b e = same_holds a b (eq_is a b (twice (int_eq a b) e))
   where
     twice : (t : Bool) → not t ≡ false → t ≡ true
@@ -364,7 +365,8 @@ any_holds x a b true p q = or_left _ _ (and_both (allows x true) a p q)
 any_holds x a b false p q = or_right (allows x true && a) _ (and_both (allows x false) b p q)
 
 -- the more the fact allows
-any_rises : (x x' : ZeroFact) (a a' b b' : Bool) → BelowZeroFact x x' → (a ≡ true → a' ≡ true) → (b ≡ true → b' ≡ true)
+any_rises : (x x' : ZeroFact) (a a' b b' : Bool) → BelowZeroFact x x' → (a ≡ true → a' ≡ true)
+    → (b ≡ true → b' ≡ true)
     → any_of x a b ≡ true → any_of x' a' b' ≡ true
 any_rises x x' a a' b b' p q r h =
     or_cases (allows x true && a) (allows x false && b) h
@@ -372,24 +374,30 @@ any_rises x x' a a' b b' p q r h =
     (λ k. any_holds x' a' b' false (p false (and_first (allows x false) b k)) (r (and_second (allows x false) b k)))
 
 -- what is allowed at all is allowed by the fact
-allows_allowed : (a : Bool) (x : ZeroFact) (nought : Bool) → allows (where_allowed a x) nought ≡ (a && allows x nought)
+allows_allowed : (a : Bool) (x : ZeroFact) (nought : Bool)
+    → allows (where_allowed a x) nought ≡ (a && allows x nought)
 allows_allowed true x nought = refl
 allows_allowed false x nought = refl
 
 -- a fact over what another allows
-allows_over : (x s t : ZeroFact) (nought : Bool) → allows (over x s t) nought ≡ any_of x (allows s nought) (allows t nought)
+allows_over : (x s t : ZeroFact) (nought : Bool)
+    → allows (over x s t) nought ≡ any_of x (allows s nought) (allows t nought)
 allows_over x s t nought =
     allows_joined (where_allowed (allows x true) s) (where_allowed (allows x false) t) nought
     ∙ ap (λ a. a || allows (where_allowed (allows x false) t) nought) (allows_allowed (allows x true) s nought)
     ∙ ap (λ a. (allows x true && allows s nought) || a) (allows_allowed (allows x false) t nought)
 
 -- it allows what is allowed in one case
-over_holds : (x s t : ZeroFact) (i nought : Bool) → allows x i ≡ true → allows (if i then s else t) nought ≡ true → allows (over x s t) nought ≡ true
-over_holds x s t true nought p q = allows_over x s t nought ∙ any_holds x (allows s nought) (allows t nought) true p q
-over_holds x s t false nought p q = allows_over x s t nought ∙ any_holds x (allows s nought) (allows t nought) false p q
+over_holds : (x s t : ZeroFact) (i nought : Bool) → allows x i ≡ true → allows (if i then s else t) nought ≡ true
+    → allows (over x s t) nought ≡ true
+over_holds x s t true nought p q =
+    allows_over x s t nought ∙ any_holds x (allows s nought) (allows t nought) true p q
+over_holds x s t false nought p q =
+    allows_over x s t nought ∙ any_holds x (allows s nought) (allows t nought) false p q
 
 -- and rises
-over_rises : (x x' s s' t t' : ZeroFact) → BelowZeroFact x x' → BelowZeroFact s s' → BelowZeroFact t t' → BelowZeroFact (over x s t) (over x' s' t')
+over_rises : (x x' s s' t t' : ZeroFact) → BelowZeroFact x x' → BelowZeroFact s s' → BelowZeroFact t t'
+    → BelowZeroFact (over x s t) (over x' s' t')
 over_rises x x' s s' t t' p q r nought h =
     allows_over x' s' t' nought
     ∙ any_rises x x' (allows s nought) (allows s' nought) (allows t nought) (allows t' nought) p (q nought) (r nought) (sym (allows_over x s t nought) ∙ h)
@@ -397,69 +405,88 @@ over_rises x x' s s' t t' p q r nought h =
 -- ---- results
 
 -- what one pair allows the facts allow
-zeros_case : (op : Op) (x y : ZeroFact) (i j nought : Bool) → allows x i ≡ true → allows y j ≡ true → allows (op_pair op i j) nought ≡ true → allows (zeros_of op x y) nought ≡ true
+zeros_case : (op : Op) (x y : ZeroFact) (i j nought : Bool) → allows x i ≡ true → allows y j ≡ true
+    → allows (op_pair op i j) nought ≡ true → allows (zeros_of op x y) nought ≡ true
 zeros_case op x y true true nought p q h = over_holds x _ _ true nought p (over_holds y _ _ true nought q h)
 zeros_case op x y true false nought p q h = over_holds x _ _ true nought p (over_holds y _ _ false nought q h)
 zeros_case op x y false true nought p q h = over_holds x _ _ false nought p (over_holds y _ _ true nought q h)
 zeros_case op x y false false nought p q h = over_holds x _ _ false nought p (over_holds y _ _ false nought q h)
 
 -- the fact of an operator's value holds
-pub zeros_hold : (op : Op) (x y : ZeroFact) (a b : ℤ) → FitsSigned w64 a → FitsSigned w64 b → ZeroFactHolds x a → ZeroFactHolds y b
+pub zeros_hold : (op : Op) (x y : ZeroFact) (a b : ℤ) → FitsSigned w64 a → FitsSigned w64 b → ZeroFactHolds x a
+    → ZeroFactHolds y b
     → traps op b ≡ false → ZeroFactHolds (zeros_of op x y) (value_of_op op a b)
 zeros_hold op x y a b fits fits' p q safe =
     zeros_case op x y (is_zero a) (is_zero b) (is_zero (value_of_op op a b)) p q (op_pair_holds op a b fits fits' safe)
 
 -- and that of an operator on one number
-pub zeros_un_hold : (op : UnOp) (x : ZeroFact) (a : ℤ) → FitsSigned w64 a → ZeroFactHolds x a → ZeroFactHolds (zeros_of_un op x) (value_of_un_op op a)
+pub zeros_un_hold : (op : UnOp) (x : ZeroFact) (a : ℤ) → FitsSigned w64 a → ZeroFactHolds x a
+    → ZeroFactHolds (zeros_of_un op x) (value_of_un_op op a)
 zeros_un_hold op x a fits p = by (is_zero a) refl p (un_pair_holds op a fits)
   where
-    by : (i : Bool) → is_zero a ≡ i → allows x i ≡ true → ZeroFactHolds (un_pair op i) (value_of_un_op op a) → ZeroFactHolds (zeros_of_un op x) (value_of_un_op op a)
+    by : (i : Bool) → is_zero a ≡ i → allows x i ≡ true → ZeroFactHolds (un_pair op i) (value_of_un_op op a)
+        → ZeroFactHolds (zeros_of_un op x) (value_of_un_op op a)
     by true e p h = over_holds x _ _ true _ p h
     by false e p h = over_holds x _ _ false _ p h
 
 -- the surer the operands, the surer the result
-pub zeros_rise : (op : Op) (x x' y y' : ZeroFact) → BelowZeroFact x x' → BelowZeroFact y y' → BelowZeroFact (zeros_of op x y) (zeros_of op x' y')
+pub zeros_rise : (op : Op) (x x' y y' : ZeroFact) → BelowZeroFact x x' → BelowZeroFact y y'
+    → BelowZeroFact (zeros_of op x y) (zeros_of op x' y')
 zeros_rise op x x' y y' p q =
     over_rises x x' _ _ _ _ p
     (over_rises y y' _ _ _ _ q (fact_refl (op_pair op true true)) (fact_refl (op_pair op true false)))
     (over_rises y y' _ _ _ _ q (fact_refl (op_pair op false true)) (fact_refl (op_pair op false false)))
 
 -- of one operand
-pub zeros_un_rise : (op : UnOp) (x x' : ZeroFact) → BelowZeroFact x x' → BelowZeroFact (zeros_of_un op x) (zeros_of_un op x')
+pub zeros_un_rise : (op : UnOp) (x x' : ZeroFact) → BelowZeroFact x x'
+    → BelowZeroFact (zeros_of_un op x) (zeros_of_un op x')
 zeros_un_rise op x x' p = over_rises x x' _ _ _ _ p (fact_refl (un_pair op true)) (fact_refl (un_pair op false))
 
 -- ---- relations
 
 module _ (op : RelOp) (t : Bool) where
   -- where one pair may have the truth value, the first number may be so
-  left_case : (y : ZeroFact) (i j : Bool) → allows y j ≡ true → relation_pair op t i j ≡ true → may_left op t y i ≡ true
+  left_case : (y : ZeroFact) (i j : Bool) → allows y j ≡ true → relation_pair op t i j ≡ true
+      → may_left op t y i ≡ true
   left_case y i true q h = any_holds y (relation_pair op t i true) (relation_pair op t i false) true q h
   left_case y i false q h = any_holds y (relation_pair op t i true) (relation_pair op t i false) false q h
 
   -- and so may the second
-  right_case : (x : ZeroFact) (i j : Bool) → allows x i ≡ true → relation_pair op t i j ≡ true → may_right op t x j ≡ true
+  right_case : (x : ZeroFact) (i j : Bool) → allows x i ≡ true → relation_pair op t i j ≡ true
+      → may_right op t x j ≡ true
   right_case x true j p h = any_holds x (relation_pair op t true j) (relation_pair op t false j) true p h
   right_case x false j p h = any_holds x (relation_pair op t true j) (relation_pair op t false j) false p h
 
   -- more where more is allowed
-  left_more : (y y' : ZeroFact) (i : Bool) → BelowZeroFact y y' → may_left op t y i ≡ true → may_left op t y' i ≡ true
-  left_more y y' i q h = any_rises y y' (relation_pair op t i true) _ (relation_pair op t i false) _ q (λ k. k) (λ k. k) h
+  left_more : (y y' : ZeroFact) (i : Bool) → BelowZeroFact y y' → may_left op t y i ≡ true
+      → may_left op t y' i ≡ true
+  left_more y y' i q h =
+      any_rises y y' (relation_pair op t i true) _ (relation_pair op t i false) _ q (λ k. k) (λ k. k) h
 
   -- of the other side
-  right_more : (x x' : ZeroFact) (j : Bool) → BelowZeroFact x x' → may_right op t x j ≡ true → may_right op t x' j ≡ true
-  right_more x x' j p h = any_rises x x' (relation_pair op t true j) _ (relation_pair op t false j) _ p (λ k. k) (λ k. k) h
+  right_more : (x x' : ZeroFact) (j : Bool) → BelowZeroFact x x' → may_right op t x j ≡ true
+      → may_right op t x' j ≡ true
+  right_more x x' j p h =
+      any_rises x x' (relation_pair op t true j) _ (relation_pair op t false j) _ p (λ k. k) (λ k. k) h
 
   -- what the first may be
-  allows_left : (x y : ZeroFact) (nought : Bool) → allows (left_fact op t x y) nought ≡ (allows x nought && may_left op t y nought)
-  allows_left x y true = allows_where (allows x true && may_left op t y true) (allows x false && may_left op t y false) true
-  allows_left x y false = allows_where (allows x true && may_left op t y true) (allows x false && may_left op t y false) false
+  allows_left : (x y : ZeroFact) (nought : Bool)
+      → allows (left_fact op t x y) nought ≡ (allows x nought && may_left op t y nought)
+  allows_left x y true =
+      allows_where (allows x true && may_left op t y true) (allows x false && may_left op t y false) true
+  allows_left x y false =
+      allows_where (allows x true && may_left op t y true) (allows x false && may_left op t y false) false
 
   -- and what the second may be
-  allows_right : (x y : ZeroFact) (nought : Bool) → allows (right_fact op t x y) nought ≡ (allows y nought && may_right op t x nought)
-  allows_right x y true = allows_where (allows y true && may_right op t x true) (allows y false && may_right op t x false) true
-  allows_right x y false = allows_where (allows y true && may_right op t x true) (allows y false && may_right op t x false) false
+  allows_right : (x y : ZeroFact) (nought : Bool)
+      → allows (right_fact op t x y) nought ≡ (allows y nought && may_right op t x nought)
+  allows_right x y true =
+      allows_where (allows y true && may_right op t x true) (allows y false && may_right op t x false) true
+  allows_right x y false =
+      allows_where (allows y true && may_right op t x true) (allows y false && may_right op t x false) false
 
-  module _ (x y : ZeroFact) (a b : ℤ) (p : ZeroFactHolds x a) (q : ZeroFactHolds y b) (is : relation_holds op a b ≡ t) where
+  module _ (x y : ZeroFact) (a b : ℤ) (p : ZeroFactHolds x a) (q : ZeroFactHolds y b)
+      (is : relation_holds op a b ≡ t) where
     pair : relation_pair op t (is_zero a) (is_zero b) ≡ true
     pair = relation_pair_holds op t a b is
 

@@ -20,7 +20,8 @@ operand_alike xs ys (Var x) on = on
 operand_alike xs ys (Const c) on = refl
 
 -- of a right side
-rhs_alike : (xs ys : List ZeroFact) (rhs : Rhs) → AgreeOnRhs zero_rules xs ys rhs → zero_of_rhs xs rhs ≡ zero_of_rhs ys rhs
+rhs_alike : (xs ys : List ZeroFact) (rhs : Rhs) → AgreeOnRhs zero_rules xs ys rhs
+    → zero_of_rhs xs rhs ≡ zero_of_rhs ys rhs
 rhs_alike xs ys (Plain a) on = operand_alike xs ys a on
 rhs_alike xs ys (Unary op a) on = ap (zeros_of_un op) (operand_alike xs ys a on)
 rhs_alike xs ys (Binary op a b) on =
@@ -34,14 +35,16 @@ AgreeOnBoth : (xs ys : List ZeroFact) → Comparison → Type 0
 AgreeOnBoth xs ys c = AgreeOn zero_rules xs ys c.left × AgreeOn zero_rules xs ys c.right
 
 -- those of a test
-both_alike : (xs ys : List ZeroFact) (test : tests.Test) → AgreeOnTest zero_rules xs ys test → AgreeOnBoth xs ys (comparison test)
+both_alike : (xs ys : List ZeroFact) (test : tests.Test) → AgreeOnTest zero_rules xs ys test
+    → AgreeOnBoth xs ys (comparison test)
 unfolding AgreeOnBoth
 both_alike xs ys (Rel op a c) on = on
 both_alike xs ys (Holds a) on = (on, tt)
 both_alike xs ys (Fails a) on = (on, tt)
 
 -- whether it may have a truth value
-goes_alike : (xs ys : List ZeroFact) (c : Comparison) (b : Bool) → AgreeOnBoth xs ys c → compares_as c b xs ≡ compares_as c b ys
+goes_alike : (xs ys : List ZeroFact) (c : Comparison) (b : Bool) → AgreeOnBoth xs ys c
+    → compares_as c b xs ≡ compares_as c b ys
 unfolding AgreeOnBoth
 goes_alike xs ys c b on =
     ap (λ x. may_relate c.op b x (zero_of xs c.right)) (operand_alike xs ys c.left on.0)
@@ -65,7 +68,8 @@ with_apart (Var x) f xs k apart = set_apart zero_rules xs x f k apart
 with_apart (Const c) f xs k apart = refl
 
 -- where a comparison has a truth value
-where_alike : (xs ys : List ZeroFact) (c : Comparison) (b : Bool) (k : ℕ) → length xs ≡ length ys → AgreeOnBoth xs ys c
+where_alike : (xs ys : List ZeroFact) (c : Comparison) (b : Bool) (k : ℕ) → length xs ≡ length ys
+    → AgreeOnBoth xs ys c
     → zero_at xs k ≡ zero_at ys k → zero_at (zeros_where c b xs) k ≡ zero_at (zeros_where c b ys) k
 unfolding AgreeOnBoth
 where_alike xs ys c b k long on h =
@@ -78,7 +82,8 @@ where_alike xs ys c b k long on h =
     (ap (λ x. right_fact c.op b x (zero_of xs c.right)) left ∙ ap (right_fact c.op b (zero_of ys c.left)) right) h)
 
 -- another variable stays as it was
-where_apart : (xs : List ZeroFact) (c : Comparison) (b : Bool) (k : ℕ) → is_operand c.left k ≡ false → is_operand c.right k ≡ false
+where_apart : (xs : List ZeroFact) (c : Comparison) (b : Bool) (k : ℕ) → is_operand c.left k ≡ false
+    → is_operand c.right k ≡ false
     → zero_at (zeros_where c b xs) k ≡ zero_at xs k
 where_apart xs c b k left right = with_apart c.left _ _ k left ∙ with_apart c.right _ xs k right
 
@@ -96,6 +101,7 @@ pub frame_rules : FrameRules zero_rules
 frame_rules = record {
   right_side = λ rhs xs ys on. rhs_alike xs ys rhs on;
   goes = λ test b xs ys on. goes_alike xs ys (comparison test) b (both_alike xs ys test on);
-  along = λ test b xs ys k long on same. where_alike xs ys (comparison test) b k long (both_alike xs ys test on) same;
+  along =
+      λ test b xs ys k long on same. where_alike xs ys (comparison test) b k long (both_alike xs ys test on) same;
   apart = λ test b xs k apart. along_apart xs test b k apart;
 }

@@ -1,5 +1,5 @@
 -- The rules are lawful. Cited by the ghost members of their `impl`.
-use Rattle.std.proofs.Common.{◌≡◌, Bool, true, false, not, if◌then◌else◌, ℤ, pos, List, refl, ◌∙◌, arith}
+use Rattle.std.proofs.Common.{◌≡◌, Bool, true, false, if◌then◌else◌, List, refl, ◌∙◌, arith}
 use Rattle.mir_base.specs.declared.instructions.Operand.{Operand}
 use Rattle.mir_base.specs.declared.instructions.Operand.TheVariants.{Var, Const}
 use Rattle.mir_base.specs.declared.instructions.Rhs.{Rhs}
@@ -63,4 +63,5 @@ rewriting_rules = record {
 
 -- all laws
 pub zero_laws : LawfulRules BelowZeroFact ZeroFactHolds zero_rules
-zero_laws = record { order = order_rules; rising = rising_rules; sound = sound_rules; rewriting = rewriting_rules; frame = frame_rules }
+zero_laws =
+    record { order = order_rules; rising = rising_rules; sound = sound_rules; rewriting = rewriting_rules; frame = frame_rules }

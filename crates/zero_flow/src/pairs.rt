@@ -28,13 +28,7 @@ fn op_pair(op: Op, left: bool, right: bool) -> ZeroFact
 }
 
 /// One of three facts: where both numbers are 0, where one of them is, and where neither is.
-fn by_zeros(
-    left: bool,
-    right: bool,
-    both: ZeroFact,
-    one: ZeroFact,
-    neither: ZeroFact,
-) -> ZeroFact
+fn by_zeros(left: bool, right: bool, both: ZeroFact, one: ZeroFact, neither: ZeroFact) -> ZeroFact
     ensures { result ≡ by_zeros both one neither left right }
 {
     if left {
@@ -71,8 +65,16 @@ fn un_pair(op: UnOp, nought: bool) -> ZeroFact
     ensures { result ≡ un_pair op nought }
 {
     match op {
-        UnOp::Neg => if nought { ZeroFact::Zero } else { ZeroFact::NotZero },
-        UnOp::Not => if nought { ZeroFact::NotZero } else { ZeroFact::Zero },
+        UnOp::Neg => if nought {
+            ZeroFact::Zero
+        } else {
+            ZeroFact::NotZero
+        },
+        UnOp::Not => if nought {
+            ZeroFact::NotZero
+        } else {
+            ZeroFact::Zero
+        },
     }
 }
 
@@ -81,8 +83,16 @@ fn relation_pair(op: RelOp, truth: bool, left: bool, right: bool) -> bool
     ensures { result ≡ relation_pair op truth left right }
 {
     match op {
-        RelOp::Eq => if truth { same_zeros(left, right) } else { not_both(left, right) },
-        RelOp::Ne => if truth { not_both(left, right) } else { same_zeros(left, right) },
+        RelOp::Eq => if truth {
+            same_zeros(left, right)
+        } else {
+            not_both(left, right)
+        },
+        RelOp::Ne => if truth {
+            not_both(left, right)
+        } else {
+            same_zeros(left, right)
+        },
         RelOp::Lt | RelOp::Gt => if truth { not_both(left, right) } else { true },
         RelOp::Le | RelOp::Ge => if truth { true } else { not_both(left, right) },
     }
@@ -148,8 +158,16 @@ fn any_of(x: ZeroFact, at_zero: bool, elsewhere: bool) -> bool
 pub(crate) fn may_relate(op: RelOp, truth: bool, x: ZeroFact, y: ZeroFact) -> bool
     ensures { result ≡ may_relate op truth x y }
 {
-    let at_zero = any_of(y, relation_pair(op, truth, true, true), relation_pair(op, truth, true, false));
-    let elsewhere = any_of(y, relation_pair(op, truth, false, true), relation_pair(op, truth, false, false));
+    let at_zero = any_of(
+        y,
+        relation_pair(op, truth, true, true),
+        relation_pair(op, truth, true, false),
+    );
+    let elsewhere = any_of(
+        y,
+        relation_pair(op, truth, false, true),
+        relation_pair(op, truth, false, false),
+    );
     any_of(x, at_zero, elsewhere)
 }
 
@@ -157,8 +175,16 @@ pub(crate) fn may_relate(op: RelOp, truth: bool, x: ZeroFact, y: ZeroFact) -> bo
 pub(crate) fn left_fact(op: RelOp, truth: bool, x: ZeroFact, y: ZeroFact) -> ZeroFact
     ensures { result ≡ left_fact op truth x y }
 {
-    let at_zero = any_of(y, relation_pair(op, truth, true, true), relation_pair(op, truth, true, false));
-    let elsewhere = any_of(y, relation_pair(op, truth, false, true), relation_pair(op, truth, false, false));
+    let at_zero = any_of(
+        y,
+        relation_pair(op, truth, true, true),
+        relation_pair(op, truth, true, false),
+    );
+    let elsewhere = any_of(
+        y,
+        relation_pair(op, truth, false, true),
+        relation_pair(op, truth, false, false),
+    );
     fact_where(allows(x, true) && at_zero, allows(x, false) && elsewhere)
 }
 
@@ -166,7 +192,15 @@ pub(crate) fn left_fact(op: RelOp, truth: bool, x: ZeroFact, y: ZeroFact) -> Zer
 pub(crate) fn right_fact(op: RelOp, truth: bool, x: ZeroFact, y: ZeroFact) -> ZeroFact
     ensures { result ≡ right_fact op truth x y }
 {
-    let at_zero = any_of(x, relation_pair(op, truth, true, true), relation_pair(op, truth, false, true));
-    let elsewhere = any_of(x, relation_pair(op, truth, true, false), relation_pair(op, truth, false, false));
+    let at_zero = any_of(
+        x,
+        relation_pair(op, truth, true, true),
+        relation_pair(op, truth, false, true),
+    );
+    let elsewhere = any_of(
+        x,
+        relation_pair(op, truth, true, false),
+        relation_pair(op, truth, false, false),
+    );
     fact_where(allows(y, true) && at_zero, allows(y, false) && elsewhere)
 }

@@ -12,7 +12,11 @@ use mir_base::{Operand, Rhs};
 fn zero_of_number(c: i64) -> ZeroFact
     ensures { result ≡ zero_of_number c }
 {
-    if c == 0 { ZeroFact::Zero } else { ZeroFact::NotZero }
+    if c == 0 {
+        ZeroFact::Zero
+    } else {
+        ZeroFact::NotZero
+    }
 }
 
 /// The fact of an operand.

@@ -300,6 +300,47 @@ $ run 100 1
 Ended(6) 0 []
 $ arguments run 100 1
 Ended(6) 0 []
+# a recursion passes an argument on, and one that it also assigns
+main: begin
+receive n(val)
+x <- power,(n,int;2,int;1,int)
+return x
+end
+power: begin
+receive n(val)
+receive base(val)
+receive step(val)
+if n = 0 goto L1
+n <- n - 1
+x <- power,(n,int;base,int;step,int)
+step <- 3
+x <- x * base
+return x
+L1: return 1
+end
+$ arguments
+main: begin
+receive n(val)
+x <- power,(n,int;2,int;1,int)
+return x
+end
+power: begin
+receive n(val)
+receive base(val)
+receive step(val)
+base <- 2
+if n = 0 goto L1
+n <- n - 1
+x <- power,(n,int;base,int;step,int)
+step <- 3
+x <- x * base
+return x
+L1: return 1
+end
+$ run 100 3
+Ended(8) 6 []
+$ arguments run 100 3
+Ended(8) 6 []
 # a called unit wants four bits of one argument and none of the other, which its caller then does not compute
 main: begin
 receive a(val)

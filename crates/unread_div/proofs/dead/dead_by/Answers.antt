@@ -1,5 +1,5 @@
 use Rattle.std.proofs.Common.{◌≡◌, ◌↔◌, Bool, true, sym, subst}
-use Rattle.flow_graph.specs.Graphs.{CanMake, IsGraph}
+use Rattle.flow_graph.specs.Graphs.{IsGraph}
 use Rattle.unread_div.specs.Unread.{IsDeadDivision}
 use Rattle.unread_div.proofs.Flagging.{dead_says, fits_rows, flags_more}
 use Rattle.unread_div.proofs.dead.dead_by.Goals as goal

@@ -1,7 +1,6 @@
-use Rattle.std.proofs.Common.{◌≡◌, ◌∙◌, Bool, false, List, length, sym, ap, subst}
-use Rattle.std.proofs.lemmas.Option.{slice_get-get_or}
-use Rattle.flow_graph.specs.Graphs.{GraphShape, IsGraph}
-use Rattle.graph_edit.specs.Flagged.{flag_at, graph_flagged}
+use Rattle.std.proofs.Common.{◌∙◌, sym, ap, subst}
+use Rattle.flow_graph.specs.Graphs.{IsGraph}
+use Rattle.graph_edit.specs.Flagged.{graph_flagged}
 use Rattle.unread_div.specs.Flags.{TellUnread}
 use Rattle.unread_div.specs.Unread.{IsUnread}
 use Rattle.unread_div.specs.UnreadLaws.{unread_is_one}
