@@ -17,7 +17,7 @@ use Rattle.wanted_bits.specs.NarrowedSteps.{AlikeBy, Beside, entered_beside, nar
 use Rattle.wanted_bits.specs.NarrowedValues.{narrowed_count}
 use Rattle.wanted_bits.specs.Wanted.{Asked}
 use Rattle.wanted_bits.proofs.Shapes.{narrowed_length, narrowed_succs}
-use Rattle.program_wanted.specs.UnitPaths.{HasNoDearerPath, evaluated_on}
+use Rattle.program_wanted.specs.UnitPaths.{HasNoDearer, evaluated_on}
 
 -- ---- paths
 
@@ -131,7 +131,7 @@ module _ (asked : Asked) (graph : GraphShape) (can : CanMake graph.vars graph.re
   }
 
 -- no path through the narrowed graph is dearer
-pub paths_stay : (asked : Asked) (graph narrowed : GraphShape) → CanMake graph.vars graph.received graph.nodes → AreNarrowed asked graph narrowed.nodes → narrowed.shared ≡ graph.shared → narrowed.received ≡ graph.received → HasNoDearerPath graph narrowed
+pub paths_stay : (asked : Asked) (graph narrowed : GraphShape) → CanMake graph.vars graph.received graph.nodes → AreNarrowed asked graph narrowed.nodes → narrowed.shared ≡ graph.shared → narrowed.received ≡ graph.received → HasNoDearer graph narrowed
 paths_stay asked graph narrowed can are shared received =
     let long = narrowed_length asked graph narrowed.nodes are in
     let succs = narrowed_succs asked graph narrowed.nodes are in

@@ -16,7 +16,7 @@ evaluated_on nodes path = sum_on (weight_at (λ x rhs. rhs_count rhs) nodes) pat
 
 -- The two graphs have the same paths from Start to a Return, and on none does the second evaluate more operators; nor
 -- does it from one entry, with the same answers to its calls
-pub record HasNoDearerPath (graph narrowed : GraphShape) : Type 0 where
+pub record HasNoDearer (graph narrowed : GraphShape) : Type 0 where
   pub full : (path : List ℕ) → IsFullPath graph.nodes path ↔ IsFullPath narrowed.nodes path
   pub fewer : (path : List ℕ) → evaluated_on narrowed.nodes path ≤ evaluated_on graph.nodes path
   pub cheaper : GraphCheaper graph narrowed
@@ -27,4 +27,4 @@ pub record ProgramPathsKept (source target : ProgramShape) : Type 0 where
   pub narrowed : List GraphShape
   pub units : AreNarrowedUnits source target graphs narrowed
   pub paths : (u : ℕ) (graph made : GraphShape) → slice_get graphs u ≡ Some graph
-      → slice_get narrowed u ≡ Some made → HasNoDearerPath graph made
+      → slice_get narrowed u ≡ Some made → HasNoDearer graph made
