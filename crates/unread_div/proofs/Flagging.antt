@@ -20,11 +20,9 @@ use Rattle.dead_code.specs.LiveRows.{TellLive}
 use Rattle.dead_code.specs.Liveness.{IsLiveAfter, IsLiveBefore}
 use Rattle.unread_div.specs.Flags.{AreFlagsBelow, FitsRows, NoDivision, NoFlag, TellDeadDivisions, TellUnread, divisor_in, is_dead_by, is_division}
 use Rattle.cond_flow.specs.KnownBefore.{IsKnownBefore, IsOnlyKnownBefore}
-use Rattle.zero_flow.specs.declared.facts.ZeroFact.{ZeroFact}
-use Rattle.zero_flow.specs.ZeroFacts.{BelowZeroFact}
-use Rattle.zero_flow.specs.ZeroRules.{zero_rules}
+use Rattle.cond_flow.specs.Rules.{Rules}
 use Rattle.graph_edit.specs.Flagged.{flag_at, graph_flagged}
-use Rattle.unread_div.specs.Unread.{IsDeadDivision, IsNeverZero, IsUnread, IsUnreadAt, may_be_nought_before}
+use Rattle.unread_div.specs.Unread.{IsDeadDivision, IsNeverZero, IsRuledOut, IsUnread, IsUnreadAt}
 
 -- ---- one flag after the other
 
@@ -192,13 +190,14 @@ unread_says graph n node b never here divides d says = (
     right_is : (e : IsDeadDivision graph n) → e.right ≡ b
     right_is e = same_Some e.right b (sym (divisor_is graph n node here e) ∙ divides)
 
--- whether the divisor may be 0 by what is known tells whether it is never 0
-pub never_says : (graph : GraphShape) (n : ℕ) (b : Operand) (known : Option (List ZeroFact))
-    → IsKnownBefore BelowZeroFact zero_rules graph n known
-    → IsOnlyKnownBefore BelowZeroFact zero_rules graph n known → (not (may_be_nought_before known b) ≡ true) ↔ IsNeverZero graph n b
-never_says graph n b known is only = (
-  λ e. record { known = known; is_known = is; never = (not_says (may_be_nought_before known b)).0 e },
-  λ u. ap not (subst (λ k. may_be_nought_before k b ≡ false) (only u.known u.is_known) u.never),
+-- whether the divisor may be 0 by what is known tells whether that is ruled out
+pub ruled_out_says : {K : Type 0} (below : K → K → Type 0) (rules : Rules K) (may_be : Option (List K) → Operand → Bool)
+    (graph : GraphShape) (n : ℕ) (b : Operand) (known : Option (List K)) → IsKnownBefore below rules graph n known
+    → IsOnlyKnownBefore below rules graph n known
+    → (not (may_be known b) ≡ true) ↔ IsRuledOut below rules may_be graph n b
+ruled_out_says below rules may_be graph n b known is only = (
+  λ e. record { known = known; is_known = is; never = (not_says (may_be known b)).0 e },
+  λ u. ap not (subst (λ k. may_be k b ≡ false) (only u.known u.is_known) u.never),
 )
 
 -- ---- the whole

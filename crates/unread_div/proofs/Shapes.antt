@@ -1,15 +1,19 @@
 -- The graph without the divisions that nothing reads keeps what the graph has: it does the same, evaluates no more
 -- operators, makes no other calls, has its edges, and each other division.
-use Rattle.std.proofs.Common.{◌≡◌, ℕ, ◌&&◌, Bool, true, false, List, length, slice_get, ℤ, pos, Option, Some, None, option_map, inl, inr, refl, sym, ap, ◌∙◌, subst, zero-add}
+use Rattle.std.proofs.Common.{◌≡◌, ℕ, ◌&&◌, Bool, true, false, List, length, slice_get, ℤ, pos, Option, Some, None, option_map, inl, inr, refl, sym, ap, ◌∙◌, subst, arith, w64, zero-add}
 use Rattle.std.proofs.lemmas.Bool.{cases_Bool, true≢false}
+use Rattle.std.proofs.lemmas.Int.{ints, int_wrap_fits}
 use Rattle.std.proofs.lemmas.Option.{same_Some, slice_get_within}
 use Rattle.mir_base.specs.declared.instructions.Operand.{Operand}
+use Rattle.mir_base.specs.declared.instructions.Operand.TheVariants.{Var, Const}
 use Rattle.mir_base.specs.declared.instructions.Rhs.{Rhs}
 use Rattle.mir_base.specs.declared.instructions.Rhs.TheVariants.{Binary}
 use Rattle.mir_base.specs.declared.operators.Op.{Op}
+use Rattle.mir_base.specs.declared.operators.RelOp.TheVariants.{Eq}
+use Rattle.mir_base.specs.NumberLaws.{zero_fits}
 use Rattle.mir_base.specs.Expressions.{rhs_traps}
 use Rattle.mir_base.specs.Frames.{Frame, Values}
-use Rattle.mir_base.specs.Numbers.{is_dividing}
+use Rattle.mir_base.specs.Numbers.{is_dividing, wrapped}
 use Rattle.mir_base.specs.UnitRuns.{UnitCheaper, UnitSame}
 use Rattle.mir_base.specs.Units.{operand_value}
 use Rattle.flow_graph.specs.declared.nodes.Node.{Node}
@@ -27,6 +31,14 @@ use Rattle.graph_edit.specs.Insertions.{changed, rewritten_nodes}
 use Rattle.graph_edit.specs.InsertionSplit.{rewritten_split}
 use Rattle.cond_flow.specs.Holding.{HoldsAt, StatesHold}
 use Rattle.cond_flow.specs.KnownBefore.{state_of_known}
+use Rattle.cond_flow.specs.Rules.{AreHeld, Rules}
+use Rattle.bounds.specs.declared.facts.Fact.{Fact}
+use Rattle.bounds.specs.declared.facts.Fact.TheVariants.{Fixed}
+use Rattle.bounds.specs.BoundRules.{bound_rules}
+use Rattle.bounds.specs.Edges.{fact_of}
+use Rattle.bounds.specs.Facts.{BelowFact, Bounds}
+use Rattle.bounds.specs.NarrowingLaws.{may_holds}
+use Rattle.path_laws.specs.Says.{off_says}
 use Rattle.dead_code.specs.Liveness.{IsLiveAfter}
 use Rattle.dead_code.specs.Pruned.{pruned_from, removed_if}
 use Rattle.dead_code.specs.PrunedLaws.{pruned_get, pruned_rewritten}
@@ -36,7 +48,7 @@ use Rattle.zero_flow.specs.EdgeLaws.{of_holds}
 use Rattle.zero_flow.specs.ZeroFacts.{BelowZeroFact, ZeroFactHolds, allows, is_zero}
 use Rattle.zero_flow.specs.ZeroRules.{zero_rules}
 use Rattle.zero_flow.specs.Zeros.{zero_of}
-use Rattle.unread_div.specs.Unread.{IsDeadDivision, IsNeverZero, IsUnread, IsUnreadAt, KeepsReadDivisions, KeepsSplit, KeepsSuccs, may_be_nought_before}
+use Rattle.unread_div.specs.Unread.{IsDeadDivision, IsNeverZero, IsRuledOut, IsUnread, IsUnreadAt, KeepsReadDivisions, KeepsSplit, KeepsSuccs, bounds_have_zero, may_be_nought_before}
 use Rattle.unread_div.proofs.Agreement.{MayGo, lessened_cheaper, lessened_same}
 
 -- ---- what is never 0
@@ -46,22 +58,56 @@ other_holds : (fact : ZeroFact) (t : Bool) → allows fact true ≡ false → al
 other_holds fact true off on = absurd (true≢false (sym on ∙ off))
 other_holds fact false off on = refl
 
--- what is never 0 by what is known is not 0 where that holds
-known_never : (size : ℕ) (known : Option (List ZeroFact)) (b : Operand) (values : Values)
+-- what is not 0 by which variables are is not 0 where that holds
+zeros_never : (size : ℕ) (known : Option (List ZeroFact)) (b : Operand) (values : Values)
     → may_be_nought_before known b ≡ false
     → HoldsAt ZeroFactHolds zero_rules (state_of_known size known) values → is_zero (operand_value values b) ≡ false
-known_never size None b values off held = absurd held
-known_never size (Some known) b values off held =
+zeros_never size None b values off held = absurd held
+zeros_never size (Some known) b values off held =
     other_holds (zero_of known b) (is_zero (operand_value values b)) off (of_holds known values b held)
 
-module _ (graph : GraphShape) (hold : StatesHold BelowZeroFact ZeroFactHolds zero_rules graph) where
-  -- so it is not 0 in a run that comes there
+-- the bounds of an operand hold of its value
+bounds_of_held : (facts : List Fact) (b : Operand) (values : Values) → AreHeld Bounds bound_rules facts values
+    → Bounds (fact_of facts b) (operand_value values b)
+bounds_of_held facts (Var x) values held = held.each x
+bounds_of_held facts (Const c) values held = record { low = omega (arith, ints); high = omega (arith, ints) }
+
+-- and those of 0 hold of 0
+bounds_of_zero : Bounds (Fixed (pos 0)) (pos 0)
+bounds_of_zero =
+    let same : wrapped (pos 0) ≡ pos 0 = int_wrap_fits w64 (pos 0) zero_fits in
+    record { low = omega (arith, ints, same); high = omega (arith, ints, same) }
+
+-- what is not 0 by the bounds is not 0 where they hold
+bounds_never : (size : ℕ) (known : Option (List Fact)) (b : Operand) (values : Values)
+    → bounds_have_zero known b ≡ false
+    → HoldsAt Bounds bound_rules (state_of_known size known) values → is_zero (operand_value values b) ≡ false
+bounds_never size None b values off held = absurd held
+bounds_never size (Some facts) b values off held =
+    (off_says (is_zero (operand_value values b))).1
+    (λ on. true≢false (sym (may_holds Eq (fact_of facts b) (Fixed (pos 0)) (operand_value values b) (pos 0) (bounds_of_held facts b values held) bounds_of_zero on) ∙ off))
+
+-- where the least states hold in runs, what may not be 0 by them is not 0 in a run that comes there
+ruled_out : {K : Type 0} (below : K → K → Type 0) (holds : K → ℤ → Type 0) (rules : Rules K)
+    (may_be : Option (List K) → Operand → Bool) (graph : GraphShape) → StatesHold below holds rules graph
+    → ((size : ℕ) (known : Option (List K)) (b : Operand) (values : Values) → may_be known b ≡ false
+    → HoldsAt holds rules (state_of_known size known) values → is_zero (operand_value values b) ≡ false)
+    → (n : ℕ) (b : Operand) → IsRuledOut below rules may_be graph n b → (f : Frame) → IsRunFrame (machine_of graph) f
+    → f.place ≡ n → is_zero (operand_value f.values b) ≡ false
+ruled_out below holds rules may_be graph hold never n b out f of_run there =
+    let is = out.is_known in
+    never (length graph.vars) out.known b f.values out.never
+    (subst (λ s. HoldsAt holds rules s f.values) (ap is.states there ∙ is.here) (hold is.states is.least f of_run))
+
+module _ (graph : GraphShape) (hold : StatesHold BelowZeroFact ZeroFactHolds zero_rules graph)
+    (bounds_hold : StatesHold BelowFact Bounds bound_rules graph) where
+  -- so it is of both
   never_zero : (n : ℕ) (b : Operand) → IsNeverZero graph n b → (f : Frame) → IsRunFrame (machine_of graph) f
       → f.place ≡ n → is_zero (operand_value f.values b) ≡ false
-  never_zero n b never f of_run there =
-      let is = never.is_known in
-      known_never (length graph.vars) never.known b f.values never.never
-      (subst (λ s. HoldsAt ZeroFactHolds zero_rules s f.values) (ap is.states there ∙ is.here) (hold is.states is.least f of_run))
+  never_zero n b (inl out) =
+      ruled_out BelowZeroFact ZeroFactHolds zero_rules may_be_nought_before graph hold zeros_never n b out
+  never_zero n b (inr out) =
+      ruled_out BelowFact Bounds bound_rules bounds_have_zero graph bounds_hold bounds_never n b out
 
   -- a number that is found not to be 0 is not 0
   is_other : (z : ℤ) → is_zero z ≡ false → ¬ (z ≡ pos 0)

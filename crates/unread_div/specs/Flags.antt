@@ -9,6 +9,12 @@ use Rattle.flow_graph.specs.declared.nodes.Node.TheVariants.{Start, Skip, Assign
 use Rattle.flow_graph.specs.Graphs.{GraphShape}
 use Rattle.path_laws.specs.Paths.{has_bit}
 use Rattle.bit_rows.specs.Bits.{row_of}
+use Rattle.cond_flow.specs.KnownBefore.{AreStatesOf}
+use Rattle.bounds.specs.BoundRules.{bound_rules}
+use Rattle.bounds.specs.Facts.{BelowFact}
+use Rattle.zero_flow.specs.ZeroFacts.{BelowZeroFact}
+use Rattle.zero_flow.specs.ZeroRules.{zero_rules}
+use Rattle.unread_div.specs.declared.safe.Safety.{Safety}
 use Rattle.unread_div.specs.Unread.{IsDeadDivision, IsUnreadAt}
 
 -- ---- one node
@@ -92,3 +98,10 @@ NoDivision nodes = (n : ℕ) (node : Node) → slice_get nodes n ≡ Some node
 -- no flag is set
 abbrev pub NoFlag : List Bool → Type 0
 NoFlag flags = (n : ℕ) → n < length flags → slice_index_or flags n false ≡ false
+
+-- ---- states
+
+-- the least states of the graph: which variables are 0, and their bounds
+pub record AreSafety (graph : GraphShape) (safety : Safety) : Type 0 where
+  pub zeros : AreStatesOf BelowZeroFact zero_rules graph safety.zeros
+  pub bounds : AreStatesOf BelowFact bound_rules graph safety.bounds

@@ -10,5 +10,6 @@ use Rattle.unread_div.specs.Unread.{IsUnread}
 pub unread_is_one : (graph a b : GraphShape) → IsUnread graph a → IsUnread graph b → a ≡ b
 unread_is_one graph a b p q =
     let alike = pruned_alike p.gone q.gone graph.nodes
-    (λ n lt. same_says (p.gone n) (q.gone n) (λ h. (q.gone_are n lt).1 ((p.gone_are n lt).0 h), λ h. (p.gone_are n lt).1 ((q.gone_are n lt).0 h))) in
+    (λ n lt. same_says (p.gone n) (q.gone n)
+    (λ h. (q.gone_are n lt).1 ((p.gone_are n lt).0 h), λ h. (p.gone_are n lt).1 ((q.gone_are n lt).0 h))) in
     p.is ∙ ap (λ (l : List Node). record graph { nodes = l }) alike ∙ sym q.is

@@ -153,7 +153,8 @@ module _ (test : tests.Test) (b : Bool) (facts : List ZeroFact) (values : Values
   -- a test may go where it goes
   pub go_holds : zeros_go test b facts ≡ true
   go_holds =
-      may_holds c.op b _ _ _ _ (of_holds facts values c.left h) (of_holds facts values c.right h) (test_is values test ∙ is)
+      may_holds c.op b _ _ _ _ (of_holds facts values c.left h) (of_holds facts values c.right h)
+      (test_is values test ∙ is)
 
   -- and what passes there holds
   pub along_holds : ZerosHold (zeros_along test b facts) values

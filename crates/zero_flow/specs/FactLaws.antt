@@ -106,7 +106,8 @@ fact_joins x y = record {
   left = λ nought h. allows_joined x y nought ∙ or_left (allows x nought) (allows y nought) h;
   right = λ nought h. allows_joined x y nought ∙ or_right (allows x nought) (allows y nought) h;
   least =
-      λ w p q nought h. or_cases (allows x nought) (allows y nought) (sym (allows_joined x y nought) ∙ h) (p nought) (q nought);
+      λ w p q nought h.
+      or_cases (allows x nought) (allows y nought) (sym (allows_joined x y nought) ∙ h) (p nought) (q nought);
 }
 
 -- all together

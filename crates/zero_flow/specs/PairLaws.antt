@@ -195,7 +195,8 @@ and_left a b p =
 -- exclusive or with 0 on the left
 xor_left : (a b : ℤ) → a ≡ pos 0 → FitsSigned w64 b → value_of_op Xor a b ≡ b
 xor_left a b p fits =
-    ap (λ z. value_of_op Xor z b) p ∙ ap (λ n. wrapped (pos n)) (xor_comm (unsigned (pos 0)) (unsigned b)) ∙ xor_none b fits
+    ap (λ z. value_of_op Xor z b) p ∙ ap (λ n. wrapped (pos n)) (xor_comm (unsigned (pos 0)) (unsigned b))
+    ∙ xor_none b fits
 
 -- and on the right
 xor_right : (a b : ℤ) → b ≡ pos 0 → FitsSigned w64 a → value_of_op Xor a b ≡ a
@@ -400,7 +401,8 @@ over_rises : (x x' s s' t t' : ZeroFact) → BelowZeroFact x x' → BelowZeroFac
     → BelowZeroFact (over x s t) (over x' s' t')
 over_rises x x' s s' t t' p q r nought h =
     allows_over x' s' t' nought
-    ∙ any_rises x x' (allows s nought) (allows s' nought) (allows t nought) (allows t' nought) p (q nought) (r nought) (sym (allows_over x s t nought) ∙ h)
+    ∙ any_rises x x' (allows s nought) (allows s' nought) (allows t nought) (allows t' nought) p (q nought) (r nought)
+    (sym (allows_over x s t nought) ∙ h)
 
 -- ---- results
 
@@ -511,13 +513,15 @@ module _ (op : RelOp) (t : Bool) where
     left_rises nought h =
         let both = sym (allows_left x y nought) ∙ h in
         allows_left x' y' nought
-        ∙ and_both _ _ (p nought (and_first (allows x nought) (may_left op t y nought) both)) (left_more y y' nought q (and_second (allows x nought) (may_left op t y nought) both))
+        ∙ and_both _ _ (p nought (and_first (allows x nought) (may_left op t y nought) both))
+        (left_more y y' nought q (and_second (allows x nought) (may_left op t y nought) both))
 
     pub right_rises : BelowZeroFact (right_fact op t x y) (right_fact op t x' y')
     right_rises nought h =
         let both = sym (allows_right x y nought) ∙ h in
         allows_right x' y' nought
-        ∙ and_both _ _ (q nought (and_first (allows y nought) (may_right op t x nought) both)) (right_more x x' nought p (and_second (allows y nought) (may_right op t x nought) both))
+        ∙ and_both _ _ (q nought (and_first (allows y nought) (may_right op t x nought) both))
+        (right_more x x' nought p (and_second (allows y nought) (may_right op t x nought) both))
 
     -- and what may be by surer facts may be by less sure ones
     pub may_rises : may_relate op t x y ≡ true → may_relate op t x' y' ≡ true

@@ -63,5 +63,10 @@ rewriting_rules = record {
 
 -- all laws
 pub zero_laws : LawfulRules BelowZeroFact ZeroFactHolds zero_rules
-zero_laws =
-    record { order = order_rules; rising = rising_rules; sound = sound_rules; rewriting = rewriting_rules; frame = frame_rules }
+zero_laws = record {
+  order = order_rules;
+  rising = rising_rules;
+  sound = sound_rules;
+  rewriting = rewriting_rules;
+  frame = frame_rules;
+}

@@ -30,19 +30,19 @@ returns-clause-only c = λ other is. unread_is_one c.args.graph.now other c.with
 pub returns-clause-keeps : goal.returns-clause-keeps
 returns-clause-keeps c =
     let here = (goal.at.returns-clause-keeps c).After-without_flagged-lessened in
-    lessened_keeps c.args.graph.now c.zeros_hold.ensures (is_graph here) c.without_flagged-lessened.result (exact here)
+    lessened_keeps c.args.graph.now c.zeros_hold.ensures c.states_hold.ensures (is_graph here) c.without_flagged-lessened.result (exact here)
 
 pub returns-clause-divides : goal.returns-clause-divides
 returns-clause-divides c =
     let here = (goal.at.returns-clause-divides c).After-without_flagged-lessened in
-    lessened_divides c.args.graph.now c.zeros_hold.ensures (is_graph here) c.without_flagged-lessened.result (exact here)
+    lessened_divides c.args.graph.now c.zeros_hold.ensures c.states_hold.ensures (is_graph here) c.without_flagged-lessened.result (exact here)
 
 pub returns-clause-succs : goal.returns-clause-succs
 returns-clause-succs c =
     let here = (goal.at.returns-clause-succs c).After-without_flagged-lessened in
-    lessened_succs c.args.graph.now c.zeros_hold.ensures (is_graph here) c.without_flagged-lessened.result (exact here)
+    lessened_succs c.args.graph.now c.zeros_hold.ensures c.states_hold.ensures (is_graph here) c.without_flagged-lessened.result (exact here)
 
 pub returns-clause-split : goal.returns-clause-split
 returns-clause-split c =
     let here = (goal.at.returns-clause-split c).After-without_flagged-lessened in
-    lessened_split c.args.graph.now c.zeros_hold.ensures (is_graph here) c.without_flagged-lessened.result (exact here)
+    lessened_split c.args.graph.now c.zeros_hold.ensures c.states_hold.ensures (is_graph here) c.without_flagged-lessened.result (exact here)
