@@ -90,7 +90,7 @@ given_same IsCall IsOther u calls forth back is = record {
 }
 
 module _ (IsCall IsMore : CallSite → Type 0) (u : ℕ) (new : CallSite) (is_new : IsMore new) (stays : (site : CallSite) → IsCall site → IsMore site) (old_or_new : (site : CallSite) → IsMore site → IsCall site ⊎ (new ≡ site)) where
-  -- one argument, of which this was state
+  -- one argument, in this state before
   state_more : (i : ℕ) (a b : ArgumentState) → JoinsArgument new.operands (passed_to u new.caller (kept_vars new.graph)) i a b → IsStateBy IsCall u i (Some a) → IsStateBy IsMore u i (Some b)
   state_more i a b joins is = elim (passed_or_not new.operands (passed_to u new.caller (kept_vars new.graph)) i) [
     | inl passed ↦
@@ -134,7 +134,7 @@ module _ (IsCall IsMore : CallSite → Type 0) (u : ℕ) (new : CallSite) (is_ne
           ]
       varies Varies e j never c gives each = is.varies (λ o. let off : Some Varies ≡ Some Open = ap Some (sym e) ∙ o in cc) (λ d o. let off : Some Varies ≡ Some (Always d) = ap Some (sym e) ∙ o in cc) c (λ site call. each site (stays site call))
 
-  -- behind the last argument nothing is state
+  -- there is no state behind the last argument
   past_more : (i : ℕ) → IsStateBy IsCall u i None → IsStateBy IsMore u i None
   past_more i is = record {
     open_each = λ o. cc;
@@ -166,7 +166,7 @@ module _ (IsCall IsMore : CallSite → Type 0) (u : ℕ) (new : CallSite) (is_ne
 
   -- one call more
   module _ (a b : NotedCalls) (notes : NotesSite new.operands (passed_to u new.caller (kept_vars new.graph)) a b) (is : IsNotedBy IsCall u a) where
-    -- all arguments, where these were state
+    -- all arguments, in these states before
     states_more : (before : List ArgumentState) → JoinsArguments (length before) new.operands (passed_to u new.caller (kept_vars new.graph)) before b.arguments.items
         → ((i : ℕ) (state : ArgumentState) → slice_get before i ≡ Some state → IsStateBy IsCall u i (Some state)) → ((i : ℕ) → length before ≤ i → IsStateBy IsMore u i None)
         → (i : ℕ) → IsStateBy IsMore u i (slice_get b.arguments.items i)
@@ -352,7 +352,7 @@ constant_is (Some Open) c = (λ e. cc, λ e. cc)
 constant_is (Some (Always d)) c = (λ e. let same : d ≡ c = cc in ap (λ k. Some (Always k)) same, λ e. let same : d ≡ c = cc in ap (λ k. Some (Some k)) same)
 constant_is (Some Varies) c = (λ e. cc, λ e. cc)
 
--- what is state of an argument of a unit that is not the first tells whether it is always a constant
+-- the state of an argument of a unit that is not the first tells whether it is always a constant
 state_always : (CallsOf : ℕ → CallSite → Type 0) (u i : ℕ) (c : ℤ) (o : Option ArgumentState) → 1 ≤ u → IsStateBy (CallsOf u) u i o → (o ≡ Some (Always c)) ↔ AlwaysGive CallsOf u i c
 state_always CallsOf u i c o later is = (λ e. record { later = later; some = is.always_some c e; each = is.always_each c e }, λ always. back o refl always)
   where

@@ -73,15 +73,16 @@ constant_in Open = None
 constant_in (Always c) = Some c
 constant_in Varies = None
 
--- what an operand makes of what is state: a constant, where it gives this constant, and nothing else was state
-pub record JoinsOperand (state : ArgumentState) (operand : Option Operand) (new : ArgumentState) : Type 0 where
+-- what an operand makes of a state: a constant, where it gives this constant, and no other was given before
+pub record JoinsOperand (state : ArgumentState) (operand : Option Operand)
+    (new : ArgumentState) : Type 0 where
   pub closed : new ≡ Open → ⊥
   pub gives : (c : ℤ) → (new ≡ Always c)
       ↔ ((operand ≡ Some (Const c)) × ((state ≡ Open) ⊎ (state ≡ Always c)))
 
--- what operand i makes of what is state, unless it passes the argument on
-pub record JoinsArgument (operands : List Operand) (kept : List (Option ℕ)) (i : ℕ) (state new : ArgumentState)
-    : Type 0 where
+-- what operand i makes of a state, unless it passes the argument on
+pub record JoinsArgument (operands : List Operand) (kept : List (Option ℕ)) (i : ℕ)
+    (state new : ArgumentState) : Type 0 where
   pub passed : IsPassed operands kept i → new ≡ state
   pub joined : (IsPassed operands kept i → ⊥) → JoinsOperand state (slice_get operands i) new
 
@@ -93,7 +94,7 @@ pub record JoinsArguments (count : ℕ) (operands : List Operand) (kept : List (
       → slice_get new i ≡ Some b → JoinsArgument operands kept i a b
   pub others : (i : ℕ) → count ≤ i → slice_get new i ≡ slice_get old i
 
--- what is state before a call: nothing of any argument, where it is the first
+-- the states before a call: nothing is given yet, where it is the first
 abbrev pub states_before : NotedCalls → List Operand → List ArgumentState
 states_before calls operands =
     if calls.called then calls.arguments.items
@@ -124,8 +125,9 @@ abbrev pub EachGives : (CallSite → Type 0) → ℕ → ℕ → ℤ → Type 0
 EachGives IsCall u i c = (site : CallSite) → IsCall site
     → GivesConstant site i c ⊎ PassesOn u i site
 
--- what these calls of unit u give argument i, where something is state of it
-pub record IsStateBy (IsCall : CallSite → Type 0) (u i : ℕ) (state : Option ArgumentState) : Type 0 where
+-- what these calls of unit u give argument i, by its state, where it has one
+pub record IsStateBy (IsCall : CallSite → Type 0) (u i : ℕ) (state : Option ArgumentState)
+    : Type 0 where
   pub open_each : state ≡ Some Open → (site : CallSite) → IsCall site → PassesOn u i site
   pub always_some : (c : ℤ) → state ≡ Some (Always c)
       → (site : CallSite) × IsCall site × GivesConstant site i c

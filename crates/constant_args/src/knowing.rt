@@ -69,7 +69,8 @@ fn push_put(puts: &mut Vec<Put>, var: usize, constant: Option<i64>) -> Result<()
 
 /// The nodes with these assignments behind Start; without any they stay as they are.
 fn put_behind_start(alloc: Global, graph: &Graph, puts: &[Put]) -> Result<Vec<Node>, Memory>
-    ensures { IfOk result (λ nodes. nodes.items ≡ put_behind_start graph.now.nodes (insertions puts.now)) }
+    ensures { IfOk result (λ nodes.
+        nodes.items ≡ put_behind_start graph.now.nodes (insertions puts.now)) }
 {
     let mut nodes = copied_nodes(alloc, graph.nodes())?;
     if !puts.is_empty() {
