@@ -45,6 +45,18 @@ $ lower unread: changes
 7: skip to 8
 14: skip to 15
 12 stay
+# bounds show it too
+main: begin
+receive n(val)
+p <- n and 7
+q <- p + 1
+r <- n / q
+s <- n / p
+return n
+end
+$ lower unread: changes
+3: skip to 4
+5 stay
 # a global is read by the return, and not where it is assigned before; a chain goes from its end
 global g
 main: begin
