@@ -6,7 +6,7 @@ use Rattle.flow_graph.specs.declared.nodes.Node.{Node}
 use Rattle.flow_graph.specs.declared.nodes.Node.TheVariants.{Start, Skip, Assign, Print, Guard, Call, Test, Return}
 use Rattle.flow_graph.specs.Graphs.{GraphShape}
 use Rattle.wanted_bits.specs.Asking.{width_at}
-use Rattle.wanted_bits.specs.declared.table.Shift.{Shift}
+use Rattle.wanted_bits.specs.declared.picking.Shift.{Shift}
 use Rattle.wanted_bits.specs.Wanted.{AreWantedBy, wanted_among, wanted_at, wanted_global, wanted_of}
 use Rattle.program_wanted.specs.Demands.{AskNoMore, Demands, IsServed, asked_at}
 

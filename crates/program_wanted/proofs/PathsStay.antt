@@ -11,7 +11,7 @@ use Rattle.flow_graph.specs.Graphs.{CanMake, GraphShape, succs_at}
 use Rattle.flow_graph.specs.Machines.{graph_code, graph_machine, machine_of}
 use Rattle.flow_graph.specs.Paths.{IsFullPath, IsPath, is_return}
 use Rattle.graph_edit.specs.Over.{weigh}
-use Rattle.wanted_bits.specs.declared.table.Shift.{Shift}
+use Rattle.wanted_bits.specs.declared.picking.Shift.{Shift}
 use Rattle.wanted_bits.specs.Narrowed.{AreNarrowed, goes, narrowed_node, narrowed_rhs}
 use Rattle.wanted_bits.specs.NarrowedSteps.{AlikeBy, Beside, entered_beside, narrowed_steps}
 use Rattle.wanted_bits.specs.NarrowedValues.{narrowed_count}

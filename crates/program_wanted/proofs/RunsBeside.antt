@@ -16,7 +16,7 @@ use Rattle.node_list.specs.Lists.{list_at}
 use Rattle.program_pass.specs.GraphPrograms.{IsGraphProgram, graph_machines, graph_numbered, graph_or_empty, shared_in}
 use Rattle.wanted_bits.specs.Agreement.{AgreeBelow, low_bits}
 use Rattle.wanted_bits.specs.Asking.{width_at}
-use Rattle.wanted_bits.specs.declared.table.Shift.{Shift}
+use Rattle.wanted_bits.specs.declared.picking.Shift.{Shift}
 use Rattle.wanted_bits.specs.MostRemoved.{TellShifts}
 use Rattle.wanted_bits.specs.NarrowedSteps.{AnswersAgree}
 use Rattle.wanted_bits.specs.Walking.{is_into}

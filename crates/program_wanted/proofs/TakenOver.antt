@@ -3,7 +3,7 @@ use Rattle.std.proofs.Common.{◌≡◌, ℕ, Bool, true, List, slice_get, Optio
 use Rattle.mir_base.specs.declared.instructions.Rhs.{Rhs}
 use Rattle.flow_graph.specs.declared.nodes.Node.TheVariants.{Assign, Skip}
 use Rattle.flow_graph.specs.Graphs.{CanMake, GraphShape}
-use Rattle.wanted_bits.specs.declared.table.Shift.{Shift}
+use Rattle.wanted_bits.specs.declared.picking.Shift.{Shift}
 use Rattle.wanted_bits.specs.MostRemoved.{RemovesMostBy}
 use Rattle.wanted_bits.specs.NarrowedLaws.{taken_wanted}
 use Rattle.program_wanted.specs.Demands.{AreLeastDemands, AreServed, Demands, asked_at}

@@ -17,7 +17,7 @@ use Rattle.node_list.specs.Lists.{list_at}
 use Rattle.wanted_bits.specs.Asking.{width_at}
 use Rattle.wanted_bits.specs.Asks.{back_list, into_bits, kept_bits}
 use Rattle.wanted_bits.specs.BitsOrder.{HasFew}
-use Rattle.wanted_bits.specs.declared.table.Shift.{Shift}
+use Rattle.wanted_bits.specs.declared.picking.Shift.{Shift}
 use Rattle.wanted_bits.specs.Found.{AreFoundNodes}
 use Rattle.wanted_bits.specs.MostRemoved.{KeepsTaken, TellShifts}
 use Rattle.wanted_bits.specs.NarrowedLaws.{same_option, wanted_on}

@@ -6,7 +6,7 @@ use Rattle.flow_graph.specs.declared.nodes.Node.TheVariants.{Call}
 use Rattle.flow_graph.specs.Graphs.{GraphShape}
 use Rattle.program_pass.specs.GraphPrograms.{shared_in}
 use Rattle.wanted_bits.specs.declared.around.Around.{Around}
-use Rattle.wanted_bits.specs.declared.table.Shift.{Shift}
+use Rattle.wanted_bits.specs.declared.picking.Shift.{Shift}
 use Rattle.wanted_bits.specs.Asking.{width_at}
 use Rattle.wanted_bits.specs.Asks.{back_list}
 use Rattle.wanted_bits.specs.BitsOrder.{HasFew}

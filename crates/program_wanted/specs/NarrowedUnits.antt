@@ -4,7 +4,7 @@ use Rattle.mir_base.specs.Shapes.{ProgramShape, UnitShape}
 use Rattle.flow_graph.specs.Graphs.{GraphShape}
 use Rattle.flow_graph.specs.Layouts.{IsLayout}
 use Rattle.jump_clean.specs.Cleaned.{IsClean}
-use Rattle.wanted_bits.specs.declared.table.Shift.{Shift}
+use Rattle.wanted_bits.specs.declared.picking.Shift.{Shift}
 use Rattle.wanted_bits.specs.MostRemoved.{TellShifts}
 use Rattle.wanted_bits.specs.Narrowed.{IsNarrowedBy}
 use Rattle.wanted_bits.specs.Wanted.{AreLeastWantedBy}

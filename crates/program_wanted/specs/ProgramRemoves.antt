@@ -8,7 +8,7 @@ use Rattle.flow_graph.specs.declared.nodes.Node.TheVariants.{Assign, Call, Skip}
 use Rattle.flow_graph.specs.Graphs.{GraphShape}
 use Rattle.program_pass.specs.GraphPrograms.{shared_in}
 use Rattle.wanted_bits.specs.Asks.{back_list}
-use Rattle.wanted_bits.specs.declared.table.Shift.{Shift}
+use Rattle.wanted_bits.specs.declared.picking.Shift.{Shift}
 use Rattle.wanted_bits.specs.MostRemoved.{KeepsTaken, TellShifts}
 use Rattle.wanted_bits.specs.Walking.{bits_at}
 use Rattle.wanted_bits.specs.WalkLaws.{FewerEach}

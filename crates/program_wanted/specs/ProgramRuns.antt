@@ -8,7 +8,7 @@ use Rattle.flow_graph.specs.Graphs.{GraphShape}
 use Rattle.mir_sim.specs.Machines.{AreInputs, machines_run}
 use Rattle.program_pass.specs.GraphPrograms.{graph_machines, shared_in}
 use Rattle.wanted_bits.specs.Agreement.{AgreeBelow}
-use Rattle.wanted_bits.specs.declared.table.Shift.{Shift}
+use Rattle.wanted_bits.specs.declared.picking.Shift.{Shift}
 use Rattle.wanted_bits.specs.Walking.{is_into}
 use Rattle.program_wanted.specs.NarrowedUnits.{AreNarrowedUnits, AreUnitNumbers}
 

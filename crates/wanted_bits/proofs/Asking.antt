@@ -15,7 +15,7 @@ use Rattle.flow_graph.specs.Graphs.{CanMake, GraphShape, succs_of}
 use Rattle.path_laws.specs.Between.{AreBetween}
 use Rattle.wanted_bits.specs.Asks.{Ask, ask_past, back_list, into_bits, kept_bits}
 use Rattle.wanted_bits.specs.BitsOrder.{BelowLists}
-use Rattle.wanted_bits.specs.declared.table.Shift.{Shift}
+use Rattle.wanted_bits.specs.declared.picking.Shift.{Shift}
 use Rattle.wanted_bits.specs.Walking.{HaveBacks, before_list, bits_at, is_into}
 use Rattle.wanted_bits.specs.WalkLaws.{AsksFew}
 use Rattle.wanted_bits.specs.Wanted.{Asked}

@@ -4,7 +4,7 @@ use Rattle.std.proofs.lemmas.Bool.{cases_Bool, cases_lt, or_parts}
 use Rattle.std.proofs.lemmas.List.{ext_get_or, get_or-set_same, get_or_past, length-set, set-get_or}
 use Rattle.flow_graph.specs.Graphs.{GraphShape}
 use Rattle.flow_graph.specs.Numbering.{is_in}
-use Rattle.wanted_bits.specs.declared.table.Shift.{Shift}
+use Rattle.wanted_bits.specs.declared.picking.Shift.{Shift}
 use Rattle.wanted_bits.specs.NewsShapes.{AreNoted, KeepsRaised, VariablesShape, is_meant}
 use Rattle.wanted_bits.specs.TouchLaws.{set_apart}
 use Rattle.wanted_bits.specs.Touching.{IsCaught, raised_bits}

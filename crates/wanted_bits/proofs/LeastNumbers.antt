@@ -23,7 +23,7 @@ use Rattle.flow_graph.specs.Graphs.{AllWithin, CanMake, GraphShape, IsEdge, assi
 use Rattle.flow_graph.specs.Numbering.{is_in}
 use Rattle.flow_graph.specs.Paths.{Begins, Ends, HasEdge}
 use Rattle.path_laws.specs.Between.{AreBetween}
-use Rattle.wanted_bits.specs.declared.table.Shift.{Shift}
+use Rattle.wanted_bits.specs.declared.picking.Shift.{Shift}
 use Rattle.wanted_bits.specs.Wanted.{AreLeastWantedBy, AreWantedBy, Asked, wanted_at, wanted_past, wanted_rhs}
 use Rattle.wanted_bits.specs.MoreWanted.{more_past, most_past}
 use Rattle.wanted_bits.specs.BitsOrder.{BelowLists, BelowNumber, HasFew}

@@ -1,8 +1,5 @@
 pub mod Locksteps
-pub mod Bits
 pub mod Found
-pub mod Taking
-pub mod Lookups
 pub mod Raising
 pub mod LeastNumbers
 pub mod Noting

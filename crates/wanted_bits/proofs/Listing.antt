@@ -5,7 +5,7 @@ use Rattle.std.proofs.lemmas.List.{get_or_append_left}
 use Rattle.std.proofs.lemmas.Option.{get_or_from_slice_get, slice_get_past}
 use Rattle.flow_graph.specs.declared.nodes.Node.{Node}
 use Rattle.flow_graph.specs.ListLaws.{get_left, get_seam}
-use Rattle.wanted_bits.specs.declared.table.Shift.{Shift}
+use Rattle.wanted_bits.specs.declared.picking.Shift.{Shift}
 use Rattle.wanted_bits.specs.Walking.{back_in}
 
 module _ (f : ℕ → Node → Node) (old : List Node) where

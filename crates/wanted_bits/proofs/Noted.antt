@@ -8,7 +8,7 @@ use Rattle.flow_graph.specs.Graphs.{GraphShape}
 use Rattle.flow_graph.specs.ListLaws.{get_push}
 use Rattle.flow_graph.specs.Numbering.{is_in}
 use Rattle.wanted_bits.specs.GlobalNumbers.{is_in_append}
-use Rattle.wanted_bits.specs.declared.table.Shift.{Shift}
+use Rattle.wanted_bits.specs.declared.picking.Shift.{Shift}
 use Rattle.wanted_bits.specs.NewsShapes.{AreMeant, AreNoted, VariablesShape, is_meant}
 use Rattle.wanted_bits.specs.Touching.{touched_in}
 

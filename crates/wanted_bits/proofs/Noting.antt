@@ -9,7 +9,7 @@ use Rattle.flow_graph.specs.Blocks.{IsBlock, IsBlocks}
 use Rattle.flow_graph.specs.BlockLaws.{chain_within, edge_within, one_block, one_place}
 use Rattle.flow_graph.specs.Graphs.{GraphShape}
 use Rattle.flow_graph.specs.NumberTables.{number_at}
-use Rattle.wanted_bits.specs.declared.table.Shift.{Shift}
+use Rattle.wanted_bits.specs.declared.picking.Shift.{Shift}
 use Rattle.wanted_bits.specs.BitsOrder.{HasFew}
 use Rattle.wanted_bits.specs.Found.{AreListed, NotesFrom, behind_bits, narrowed_by, noted_past}
 use Rattle.wanted_bits.specs.Narrowed.{narrowed_node}

@@ -2,7 +2,7 @@
 use Rattle.std.proofs.Common.{◌≡◌, ◌∙◌, ℕ, List, length, Option, refl, sym, ap, subst}
 use Rattle.fix_solve.specs.Order.{IsLeastUpper}
 use Rattle.flow_graph.specs.Graphs.{GraphShape}
-use Rattle.wanted_bits.specs.declared.table.Shift.{Shift}
+use Rattle.wanted_bits.specs.declared.picking.Shift.{Shift}
 use Rattle.wanted_bits.specs.BitsOrder.{BelowLists, HasFew, few_each, joined_bits, lists_join}
 use Rattle.wanted_bits.specs.JoinedBits.{joined_few}
 use Rattle.wanted_bits.specs.Wanted.{Asked}

@@ -23,7 +23,7 @@ use Rattle.flow_graph.specs.Graphs.{AllReached, CanMake, GraphShape, IsEdge, Rea
 use Rattle.flow_graph.specs.NodeLaws.{mapped_from}
 use Rattle.flow_graph.specs.PathLaws.{reached_trace}
 use Rattle.flow_graph.specs.Paths.{Trace, from_start, goes_on}
-use Rattle.wanted_bits.specs.declared.table.Shift.{Shift}
+use Rattle.wanted_bits.specs.declared.picking.Shift.{Shift}
 use Rattle.wanted_bits.specs.Wanted.{Asked, is_right_shift, is_undone, shift_by, shifted_back}
 use Rattle.wanted_bits.specs.NarrowedSteps.{handed_long}
 use Rattle.wanted_bits.specs.Narrowed.{AreNarrowed, all_handed, goes, handed, is_neutral, is_neutral_left, narrowed_node, narrowed_past, narrowed_rhs, without_neutral}

@@ -5,7 +5,7 @@ use Rattle.mir_base.specs.Frames.{shared_vars}
 use Rattle.flow_graph.specs.declared.nodes.Node.{Node}
 use Rattle.flow_graph.specs.declared.nodes.Node.TheVariants.{Start, Call}
 use Rattle.flow_graph.specs.Graphs.{GraphShape}
-use Rattle.wanted_bits.specs.declared.table.Shift.{Shift}
+use Rattle.wanted_bits.specs.declared.picking.Shift.{Shift}
 use Rattle.wanted_bits.specs.MostRemoved.{TellShifts}
 use Rattle.wanted_bits.specs.Walking.{HaveBacks, back_in, bits_at, is_into}
 use Rattle.wanted_bits.specs.Wanted.{AreLeastWantedBy, AreShifts, Asked}

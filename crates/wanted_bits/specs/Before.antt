@@ -3,7 +3,7 @@ use Rattle.std.specs.Prelude.{◌≡◌, ◌<◌, ℕ, List, length, Option}
 use Rattle.node_list.specs.Lists.{list_at}
 use Rattle.flow_graph.specs.declared.nodes.Node.{Node}
 use Rattle.flow_graph.specs.Graphs.{GraphShape}
-use Rattle.wanted_bits.specs.declared.table.Shift.{Shift}
+use Rattle.wanted_bits.specs.declared.picking.Shift.{Shift}
 use Rattle.wanted_bits.specs.MostRemoved.{TellShifts}
 use Rattle.wanted_bits.specs.Walking.{HaveBacks, back_in, bits_at, bits_past}
 use Rattle.wanted_bits.specs.Wanted.{AreLeastWantedBy, Asked, all_asked}

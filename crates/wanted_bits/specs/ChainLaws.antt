@@ -7,7 +7,7 @@ use Rattle.flow_graph.specs.declared.nodes.Node.{Node}
 use Rattle.flow_graph.specs.declared.nodes.Node.TheVariants.{Start, Skip, Assign, Print, Guard, Call, Test, Return}
 use Rattle.flow_graph.specs.Graphs.{CanMake, GraphShape, IsEdge, assigns, node_succs, succs_of}
 use Rattle.flow_graph.specs.ListLaws.{some_at}
-use Rattle.wanted_bits.specs.declared.table.Shift.{Shift}
+use Rattle.wanted_bits.specs.declared.picking.Shift.{Shift}
 use Rattle.wanted_bits.specs.Chains.{IsCarried, needed, none_wanted, passed_on, through}
 use Rattle.wanted_bits.specs.MoreWanted.{more_rhs, most_rhs}
 use Rattle.wanted_bits.specs.Wanted.{AreLeastWantedBy, AreWantedBy, Asked, wanted_at, wanted_rhs}

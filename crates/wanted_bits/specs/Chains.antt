@@ -6,7 +6,7 @@ use Rattle.node_list.specs.Lists.{list_at}
 use Rattle.flow_graph.specs.declared.nodes.Node.{Node}
 use Rattle.flow_graph.specs.declared.nodes.Node.TheVariants.{Assign}
 use Rattle.flow_graph.specs.Graphs.{GraphShape, IsEdge, assigns}
-use Rattle.wanted_bits.specs.declared.table.Shift.{Shift}
+use Rattle.wanted_bits.specs.declared.picking.Shift.{Shift}
 use Rattle.wanted_bits.specs.MostRemoved.{TellShifts}
 use Rattle.wanted_bits.specs.Walking.{bits_at}
 use Rattle.wanted_bits.specs.Wanted.{Asked, all_asked, wanted_at, wanted_rhs}

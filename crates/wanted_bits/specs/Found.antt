@@ -5,7 +5,7 @@ use Rattle.flow_graph.specs.declared.nodes.Node.{Node}
 use Rattle.flow_graph.specs.declared.nodes.Node.TheVariants.{Skip, Assign, Call, Return}
 use Rattle.flow_graph.specs.Graphs.{GraphShape}
 use Rattle.flow_graph.specs.NumberTables.{number_at}
-use Rattle.wanted_bits.specs.declared.table.Shift.{Shift}
+use Rattle.wanted_bits.specs.declared.picking.Shift.{Shift}
 use Rattle.wanted_bits.specs.BitsOrder.{HasFew}
 use Rattle.wanted_bits.specs.Narrowed.{all_handed, goes, handed, narrowed_node, narrowed_past}
 use Rattle.wanted_bits.specs.Shifts.{IsShiftedAt}

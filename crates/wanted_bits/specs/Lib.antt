@@ -16,9 +16,7 @@ pub mod TouchLaws
 pub mod WantedNet
 pub mod WantedNetLaws
 pub mod Shifts
-pub mod ShiftTables
-pub mod SameShifts
-pub mod Rows
+pub mod ByRows
 pub mod WantedFlows
 pub mod Found
 pub mod Asks

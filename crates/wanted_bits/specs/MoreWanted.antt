@@ -10,7 +10,7 @@ use Rattle.mir_base.specs.declared.instructions.Operand.TheVariants.{Var, Const}
 use Rattle.mir_base.specs.declared.instructions.Rhs.{Rhs}
 use Rattle.mir_base.specs.declared.instructions.Rhs.TheVariants.{Plain, Unary, Binary}
 use Rattle.mir_base.specs.Numbers.{wrapped, distance}
-use Rattle.wanted_bits.specs.declared.table.Shift.{Shift}
+use Rattle.wanted_bits.specs.declared.picking.Shift.{Shift}
 use Rattle.wanted_bits.specs.Wanted.{if_any, shifted_back, wanted_by, wanted_left, wanted_of, wanted_past, wanted_rhs, wanted_right, wanted_shl, wanted_shr}
 
 -- where any bit is wanted

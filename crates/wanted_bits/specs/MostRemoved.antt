@@ -5,7 +5,7 @@ use Rattle.mir_base.specs.Expressions.{divides}
 use Rattle.flow_graph.specs.declared.nodes.Node.{Node}
 use Rattle.flow_graph.specs.declared.nodes.Node.TheVariants.{Assign, Skip}
 use Rattle.flow_graph.specs.Graphs.{GraphShape, IsEdge, assigns}
-use Rattle.wanted_bits.specs.declared.table.Shift.{Shift}
+use Rattle.wanted_bits.specs.declared.picking.Shift.{Shift}
 use Rattle.wanted_bits.specs.Shifts.{IsShiftedAt}
 use Rattle.wanted_bits.specs.Wanted.{Asked, all_asked, wanted_at}
 

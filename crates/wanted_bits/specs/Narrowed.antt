@@ -14,7 +14,7 @@ use Rattle.flow_graph.specs.Edges.{IsSplit}
 use Rattle.flow_graph.specs.Graphs.{GraphShape}
 use Rattle.wanted_bits.specs.Shifts.{IsShiftedAt}
 use Rattle.wanted_bits.specs.Agreement.{low_bits}
-use Rattle.wanted_bits.specs.declared.table.Shift.{Shift}
+use Rattle.wanted_bits.specs.declared.picking.Shift.{Shift}
 use Rattle.wanted_bits.specs.Wanted.{AreLeastWantedBy, AreShifts, AreWantedBy, Asked, all_asked, is_undone, shifted_back}
 
 -- the operand is a constant whose k lowest bits are all 0

@@ -15,7 +15,7 @@ use Rattle.flow_graph.specs.declared.nodes.Node.{Node}
 use Rattle.flow_graph.specs.declared.nodes.Node.TheVariants.{Start, Skip, Assign, Print, Guard, Call, Test, Return}
 use Rattle.flow_graph.specs.Graphs.{CanMake, GraphShape, succs_of}
 use Rattle.flow_graph.specs.OneLaws.{same_graphs, same_places}
-use Rattle.wanted_bits.specs.declared.table.Shift.{Shift}
+use Rattle.wanted_bits.specs.declared.picking.Shift.{Shift}
 use Rattle.wanted_bits.specs.Wanted.{AreLeastWantedBy, AreWantedBy, Asked, is_undone, length_of, shifted_back, wanted_at, wanted_by, wanted_left, wanted_of, wanted_past, wanted_rhs, wanted_right}
 use Rattle.wanted_bits.specs.Narrowed.{IsNarrowedBy, is_itself, narrowed_assign, narrowed_node, narrowed_rhs}
 use Rattle.wanted_bits.specs.MostRemoved.{KeepsTaken, TellShifts}

@@ -32,7 +32,7 @@ use Rattle.flow_graph.specs.Machines.{received_from, node_transition, graph_code
 use Rattle.flow_graph.specs.Numbering.{is_in}
 use Rattle.wanted_bits.specs.Agreement.{AgreeBelow, low_bits}
 use Rattle.wanted_bits.specs.AgreementLaws.{agree_equal, agree_lower}
-use Rattle.wanted_bits.specs.declared.table.Shift.{Shift}
+use Rattle.wanted_bits.specs.declared.picking.Shift.{Shift}
 use Rattle.wanted_bits.specs.Walking.{is_into}
 use Rattle.wanted_bits.specs.Wanted.{AreShifts, AreWantedBy, Asked, IsShift, wanted_among, wanted_at, wanted_global, wanted_of, wanted_rhs}
 use Rattle.wanted_bits.specs.Narrowed.{AreNarrowed, all_handed, goes, handed, is_itself, narrowed_assign, narrowed_node, narrowed_rhs}

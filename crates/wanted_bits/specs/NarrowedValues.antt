@@ -23,7 +23,7 @@ use Rattle.mir_base.specs.Expressions.{rhs_traps, rhs_value, rhs_count}
 use Rattle.mir_base.specs.FrameLaws.{ValuesFit, operand_fits}
 use Rattle.wanted_bits.specs.Agreement.{low_bits, AgreeBelow, bit_length}
 use Rattle.wanted_bits.specs.AgreementLaws.{agree_add, agree_sub, agree_mul, agree_neg, agree_lower, agree_equal, agree_wrapped, agree_and, agree_or, agree_xor, agree_mask, agree_shl, agree_shr, agree_shra, extended_agrees, extended_low, add_nothing, sub_nothing, or_nothing, xor_nothing, and_nothing, low_below, low_of_low}
-use Rattle.wanted_bits.specs.declared.table.Shift.{Shift}
+use Rattle.wanted_bits.specs.declared.picking.Shift.{Shift}
 use Rattle.wanted_bits.specs.Wanted.{if_any, length_of, shift_by, shifted_back, is_right_shift, wanted_by, wanted_left, wanted_of, wanted_past, wanted_rhs, wanted_right, wanted_shl, wanted_shr}
 use Rattle.wanted_bits.specs.Narrowed.{has_ones, has_zeros, is_neutral, is_neutral_left, narrowed_past, narrowed_rhs, without_neutral}
 

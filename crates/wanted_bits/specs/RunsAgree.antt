@@ -5,7 +5,7 @@ use Rattle.mir_base.specs.UnitRuns.{AreAnswers, IsEntry}
 use Rattle.flow_graph.specs.Graphs.{GraphShape}
 use Rattle.flow_graph.specs.Machines.{machine_of}
 use Rattle.wanted_bits.specs.Agreement.{AgreeBelow}
-use Rattle.wanted_bits.specs.declared.table.Shift.{Shift}
+use Rattle.wanted_bits.specs.declared.picking.Shift.{Shift}
 use Rattle.wanted_bits.specs.MostRemoved.{TellShifts}
 use Rattle.wanted_bits.specs.Wanted.{AreLeastWanted}
 

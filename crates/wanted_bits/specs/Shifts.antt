@@ -1,60 +1,53 @@
--- Shifts to the left: after `t <- y shl c` the variable t is y shifted, as long as neither is assigned. Cited by contracts.
-use Rattle.std.specs.Prelude.{◌≢◌, ℕ, Bool, true, false, nat_eq, ◌&&◌, ◌||◌, List, slice_get, Option, Some, None}
+-- Shifts to the left: after `t <- y shl c` the variable t is y shifted, as long as neither is assigned. Only constants c
+-- from 0 to 63 are looked at, as they are written. Cited by contracts.
+use Rattle.std.specs.Prelude.{◌≡◌, ℕ, Bool, ◌&&◌, if◌then◌else◌, ℤ, pos, int_le, Option, Some, None}
+use Rattle.std.specs.Option.{is_some}
 use Rattle.mir_base.specs.declared.operators.Op.{Op}
 use Rattle.mir_base.specs.declared.operators.Op.TheVariants.{Shl}
+use Rattle.mir_base.specs.declared.instructions.Operand.{Operand}
 use Rattle.mir_base.specs.declared.instructions.Operand.TheVariants.{Var, Const}
 use Rattle.mir_base.specs.declared.instructions.Rhs.{Rhs}
 use Rattle.mir_base.specs.declared.instructions.Rhs.TheVariants.{Plain, Unary, Binary}
 use Rattle.mir_base.specs.Numbers.{distance, wrapped}
-use Rattle.flow_graph.specs.declared.nodes.Node.{Node}
-use Rattle.flow_graph.specs.declared.nodes.Node.TheVariants.{Start, Skip, Assign, Print, Guard, Call, Test, Return}
-use Rattle.flow_graph.specs.Graphs.{GraphShape, Reached, assigns}
-use Rattle.path_laws.specs.Paths.{BornBefore}
-use Rattle.wanted_bits.specs.declared.table.Shift.{Shift}
+use Rattle.flow_graph.specs.Graphs.{GraphShape}
+use Rattle.held_assign.specs.Holding.{IsHeld}
+use Rattle.wanted_bits.specs.declared.picking.Shift.{Shift}
 
--- the operator shifts to the left
-abbrev pub is_left_shift : Op → Bool
-is_left_shift Shl = true
-is_left_shift _ = false
+-- a constant that is a distance as it is written
+abbrev pub is_written : ℤ → Bool
+is_written c = int_le (pos 0) c && int_le c (pos 63)
 
--- the right side is this shift
-abbrev pub is_shifted : Shift → Rhs → Bool
-is_shifted shift (Plain a) = false
-is_shifted shift (Unary op a) = false
-is_shifted shift (Binary op (Const c) b) = false
-is_shifted shift (Binary op (Var y) (Var z)) = false
-is_shifted shift (Binary op (Var y) (Const c)) =
-    is_left_shift op && nat_eq shift.source y && nat_eq shift.distance (distance (wrapped c))
+-- an operand shifted by another, where the first is a variable and the second such a constant
+abbrev pub shift_on : Operand → Operand → Option Shift
+shift_on (Const c) b = None
+shift_on (Var y) (Var z) = None
+shift_on (Var y) (Const c) =
+    if is_written c then Some (record { source = y; distance = distance (wrapped c) }) else None
 
--- the node, where there is one, assigns this shift to t
-abbrev pub is_shift : ℕ → Shift → Option Node → Bool
-is_shift t shift None = false
-is_shift t shift (Some (Start next)) = false
-is_shift t shift (Some (Skip next)) = false
-is_shift t shift (Some (Assign x rhs next)) = nat_eq t x && is_shifted shift rhs
-is_shift t shift (Some (Print a next)) = false
-is_shift t shift (Some (Guard test number next)) = false
-is_shift t shift (Some (Call into unit operands next)) = false
-is_shift t shift (Some (Test test taken other)) = false
-is_shift t shift (Some (Return a)) = false
+-- the same where the operator shifts to the left
+abbrev pub shift_with : Op → Operand → Operand → Option Shift
+shift_with Shl a b = shift_on a b
+shift_with _ a b = None
 
--- node n assigns this shift to t
-abbrev pub shifts_at : List Node → ℕ → Shift → ℕ → Bool
-shifts_at nodes t shift n = is_shift t shift (slice_get nodes n)
+-- the shift that a right side is
+abbrev pub shift_of : Rhs → Option Shift
+shift_of (Plain a) = None
+shift_of (Unary op a) = None
+shift_of (Binary op a b) = shift_with op a b
 
--- the node, where there is one, assigns t or y
-abbrev pub assigns_one_of : GraphShape → ℕ → ℕ → Option Node → Bool
-assigns_one_of graph t y None = false
-assigns_one_of graph t y (Some node) = assigns graph t node || assigns graph y node
+-- the right side is a shift
+abbrev pub shifts_left : Rhs → Bool
+shifts_left rhs = is_some (shift_of rhs)
 
--- node n assigns t or y
-abbrev pub ends_shift_at : GraphShape → ℕ → ℕ → ℕ → Bool
-ends_shift_at graph t y n = assigns_one_of graph t y (slice_get graph.nodes n)
+-- the shift that a variable is which holds this right side
+abbrev pub shift_held : Option Rhs → Option Shift
+shift_held None = None
+shift_held (Some rhs) = shift_of rhs
 
--- t is this shift at node n: of another variable than t, node n is reached, and on every path from Start to it there
--- is, before n, a node that assigns the shift to t, after which, before n, no node assigns t or the source
+-- t is this shift at node n: a right side that is the shift holds for t before it. So the source is another variable than
+-- t, node n is reached, and on every path from Start to it there is, before n, a node that assigns this right side to t,
+-- after which, before n, no node assigns t or the source
 pub record IsShiftedAt (graph : GraphShape) (t : ℕ) (shift : Shift) (n : ℕ) : Type 0 where
-  pub apart : shift.source ≢ t
-  pub reached : Reached graph.nodes n
-  pub paths : BornBefore graph.nodes (shifts_at graph.nodes t shift)
-      (ends_shift_at graph t shift.source) n
+  pub rhs : Rhs
+  pub is : shift_of rhs ≡ Some shift
+  pub holds : IsHeld graph t rhs n

@@ -14,7 +14,7 @@ use Rattle.flow_graph.specs.declared.nodes.Node.{Node}
 use Rattle.flow_graph.specs.declared.nodes.Node.TheVariants.{Start, Skip, Assign, Print, Guard, Call, Test, Return}
 use Rattle.flow_graph.specs.Graphs.{GraphShape, assigns}
 use Rattle.flow_graph.specs.Numbering.{is_in}
-use Rattle.wanted_bits.specs.declared.table.Shift.{Shift}
+use Rattle.wanted_bits.specs.declared.picking.Shift.{Shift}
 use Rattle.wanted_bits.specs.GlobalNumbers.{is_in_append}
 use Rattle.wanted_bits.specs.Touching.{source_vars, touched_at, touched_in, touched_past, touched_vars}
 use Rattle.wanted_bits.specs.Wanted.{Asked, if_any, is_undone, wanted_left, wanted_right}

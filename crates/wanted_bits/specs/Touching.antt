@@ -8,7 +8,7 @@ use Rattle.flow_graph.specs.declared.nodes.Node.TheVariants.{Start, Skip, Assign
 use Rattle.flow_graph.specs.Graphs.{GraphShape}
 use Rattle.flow_graph.specs.Numbering.{is_in}
 use Rattle.node_list.specs.Lists.{list_at}
-use Rattle.wanted_bits.specs.declared.table.Shift.{Shift}
+use Rattle.wanted_bits.specs.declared.picking.Shift.{Shift}
 use Rattle.wanted_bits.specs.NewsShapes.{VariablesShape, AreMeant, is_meant}
 use Rattle.wanted_bits.specs.Walking.{bits_at, raised_at}
 

@@ -12,7 +12,7 @@ use Rattle.flow_graph.specs.declared.nodes.Node.{Node}
 use Rattle.flow_graph.specs.declared.nodes.Node.TheVariants.{Start, Skip, Assign, Print, Guard, Call, Test, Return}
 use Rattle.flow_graph.specs.Graphs.{GraphShape, assigns, node_reads}
 use Rattle.flow_graph.specs.Numbering.{is_in}
-use Rattle.wanted_bits.specs.declared.table.Shift.{Shift}
+use Rattle.wanted_bits.specs.declared.picking.Shift.{Shift}
 use Rattle.wanted_bits.specs.declared.around.Around.{Around}
 use Rattle.wanted_bits.specs.Asking.{asked_by}
 use Rattle.wanted_bits.specs.GlobalNumbers.{shared_is_in}

@@ -10,7 +10,7 @@ use Rattle.flow_graph.specs.declared.nodes.Node.{Node}
 use Rattle.flow_graph.specs.declared.nodes.Node.TheVariants.{Assign, Call, Return}
 use Rattle.mir_base.specs.Frames.{shared_vars}
 use Rattle.flow_graph.specs.Graphs.{GraphShape, node_reads}
-use Rattle.wanted_bits.specs.declared.table.Shift.{Shift}
+use Rattle.wanted_bits.specs.declared.picking.Shift.{Shift}
 use Rattle.wanted_bits.specs.Wanted.{Asked, if_any, is_undone, shifted_back, wanted_left, wanted_right}
 
 -- the bits of x among these

@@ -13,7 +13,7 @@ use Rattle.flow_graph.specs.declared.nodes.Node.{Node}
 use Rattle.flow_graph.specs.declared.nodes.Node.TheVariants.{Assign, Call, Return}
 use Rattle.flow_graph.specs.Graphs.{GraphShape, IsEdge, assigns, node_reads}
 use Rattle.flow_graph.specs.Numbering.{is_in}
-use Rattle.wanted_bits.specs.declared.table.Shift.{Shift}
+use Rattle.wanted_bits.specs.declared.picking.Shift.{Shift}
 use Rattle.wanted_bits.specs.Agreement.{bit_length}
 
 -- ---- operands, of which the result's k lowest bits are wanted

@@ -10,7 +10,7 @@ use Rattle.flow_graph.specs.Numbering.{is_in}
 use Rattle.path_laws.specs.Between.{AreBlockEdges}
 use Rattle.wanted_bits.specs.declared.flow.WantedFlow.{WantedFlow}
 use Rattle.wanted_bits.specs.declared.solving.Crossed.{Crossed}
-use Rattle.wanted_bits.specs.declared.table.Shift.{Shift}
+use Rattle.wanted_bits.specs.declared.picking.Shift.{Shift}
 use Rattle.wanted_bits.specs.Asking.{asked_by}
 use Rattle.wanted_bits.specs.Wanted.{Asked}
 use Rattle.wanted_bits.specs.BitsOrder.{BelowLists, lists_rank}

@@ -11,7 +11,7 @@ use Rattle.flow_graph.specs.declared.edges.Edge.{Edge}
 use Rattle.flow_graph.specs.FlowEdges.{edge_at}
 use Rattle.flow_graph.specs.Graphs.{GraphShape}
 use Rattle.path_laws.specs.Between.{AreBetween}
-use Rattle.wanted_bits.specs.declared.table.Shift.{Shift}
+use Rattle.wanted_bits.specs.declared.picking.Shift.{Shift}
 use Rattle.wanted_bits.specs.BitsOrder.{BelowLists, BelowNumber, HasFew, lists_rank, rank_most}
 use Rattle.wanted_bits.specs.Wanted.{Asked}
 use Rattle.wanted_bits.specs.Walking.{before_list, bits_at}

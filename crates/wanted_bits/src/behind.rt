@@ -9,8 +9,8 @@ ghost use Rattle.wanted_bits.specs.WantedFlows.{AreCrossed, AreLeastBehind};
 
 use crate::around::Around;
 use crate::lists::WantedList;
+use crate::picking::Shift;
 use crate::solving::{Crossed, crossings, least};
-use crate::table::Shift;
 use crate::walking::{assigned_bits, pass_back};
 use fix_solve::Work;
 use flow_graph::Graph;

@@ -10,8 +10,8 @@ ghost use Rattle.wanted_bits.specs.WantedFlows.{IsWantedFlow, caught_in, caught_
 use crate::around::Around;
 use crate::lists::{WantedList, raise_each};
 use crate::news::SomeVariables;
+use crate::picking::Shift;
 use crate::raises::{raise_listed, raise_noting, take_listed};
-use crate::table::Shift;
 use crate::walking::walk_back;
 use fix_solve::{Flow, Steps};
 use flow_graph::{Blocks, Graph};

@@ -5,6 +5,9 @@
 //!
 //! The theorem that this crate carries is the contract of `narrow`: the answer is the exact graph, made by the least
 //! numbers of wanted bits, it does the same as the graph that goes in, and it evaluates no more operators.
+//!
+//! `held_assign` tells which variable is another one shifted to the left before each node: `PickShifts` is the choice of
+//! the right sides that are such shifts. In `specs/Shifts.antt` it is said when a variable is one.
 #![tactic(auto)]
 
 mod around;
@@ -13,15 +16,12 @@ mod backs;
 mod before;
 mod behind;
 mod flow;
-mod held;
-mod keys;
 mod lists;
 mod narrowing;
 mod news;
+mod picking;
 mod raises;
-mod rows;
 mod solving;
-mod table;
 mod touching;
 mod walking;
 mod wanting;
@@ -29,6 +29,5 @@ mod wanting;
 pub use around::{Around, Widths};
 pub use asks::asks_around;
 pub use before::{wanted_before, wanted_before_in};
-pub use held::HeldShifts;
 pub use narrowing::{narrow, narrow_in};
-pub use table::{Shift, VarShift};
+pub use picking::Shift;

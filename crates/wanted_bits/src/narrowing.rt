@@ -14,7 +14,7 @@ ghost use Rattle.wanted_bits.specs.Narrowed.{IsNarrowed, all_handed, handed, IsO
 use crate::around::{Around, Widths};
 use crate::backs::backs;
 use crate::behind::behind;
-use crate::table::Shift;
+use crate::picking::Shift;
 use crate::wanting::narrowed_past;
 use flow_graph::{Graph, Node};
 use mir_base::{Args, Memory, Operand, Rhs, divides};
@@ -25,8 +25,8 @@ use std::alloc::Global;
 /// change the wanted bits of the result. By them an assignment of which no bit is wanted, and which does not divide,
 /// becomes a Skip; an operator of which one operand is a constant that changes no wanted bit of the other gives way to
 /// that other; and a shift to the right of a variable that was shifted to the left as far gives way to what was shifted,
-/// where the wanted bits were not shifted out. What is then assigned to itself becomes a Skip too. No other node
-/// changes.
+/// where the wanted bits were not shifted out. Of shifts to the left only those count whose constant is written as a
+/// number from 0 to 63. What is then assigned to itself becomes a Skip too. No other node changes.
 ///
 /// The graph does the same and evaluates no more operators. It fails only with `Memory`.
 pub fn narrow(alloc: Global, graph: &Graph) -> Result<Graph, Memory>

@@ -10,7 +10,7 @@ use crate::around::Around;
 use crate::flow::WantedFlow;
 use crate::lists::WantedList;
 use crate::news::SomeVariables;
-use crate::table::Shift;
+use crate::picking::Shift;
 use crate::touching::touched;
 use fix_solve::{Steps, Work, solve};
 use flow_graph::{Blocks, Edges, Graph};

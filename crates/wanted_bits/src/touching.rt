@@ -8,7 +8,7 @@ ghost use Rattle.wanted_bits.specs.Touching.{AreTouched, source_vars, touched_in
 ghost use Rattle.wanted_bits.specs.Walking.{AreGraphNodes, back_in};
 
 use crate::news::SomeVariables;
-use crate::table::Shift;
+use crate::picking::Shift;
 use fix_solve::News;
 use flow_graph::{Blocks, Graph, Node};
 use mir_base::{Memory, Operand, Rhs, Test};

@@ -9,7 +9,7 @@ ghost use Rattle.wanted_bits.specs.Walking.{HaveBacks, all_raised, all_set, amon
 ghost use Rattle.wanted_bits.specs.Walking.{AreGraphNodes};
 
 use crate::around::Around;
-use crate::table::Shift;
+use crate::picking::Shift;
 use crate::wanting::{if_any, is_undone, wanted_left, wanted_right};
 use flow_graph::{Graph, Node};
 use mir_base::{Operand, Rhs, Test, UnOp};

@@ -5,7 +5,7 @@ ghost use Rattle.wanted_bits.specs.Agreement.{bit_length, low_bits};
 ghost use Rattle.wanted_bits.specs.Wanted.{if_any, is_right_shift, is_undone, length_of, shift_by, wanted_left, wanted_right, wanted_shl, wanted_shr};
 ghost use Rattle.wanted_bits.specs.Narrowed.{has_ones, has_zeros, is_neutral, is_neutral_left, narrowed_past, without_neutral};
 
-use crate::table::Shift;
+use crate::picking::Shift;
 use mir_base::{Op, Operand, Rhs};
 
 // ---- what is wanted
