@@ -359,4 +359,72 @@ print y
 L1: w <- 6 / n
 return w
 end
+# an argument that each call gives, and the recursion passes on, is known, and then nothing is wanted of it
+main: begin
+receive n(val)
+x <- power,(n,int;2,int)
+return x
+end
+power: begin
+receive n(val)
+receive base(val)
+if n = 0 goto L1
+n <- n - 1
+x <- power,(n,int;base,int)
+x <- x * base
+return x
+L1: return 1
+end
+$ thorough
+main: begin
+receive n(val)
+x <- power,(n,int;0,int)
+return x
+end
+power: begin
+receive n(val)
+receive base(val)
+if n = 0 goto L1
+n <- n - 1
+x <- power,(n,int;0,int)
+x <- x * 2
+return x
+L1: return 1
+end
+$ run 1000 3
+Ended(8) 6 []
+$ thorough run 1000 3
+Ended(8) 6 []
+# a quotient that nothing reads behind a test of its divisor, a char that is extended once more, and a sum of a sum
+main: begin
+receive n(val)
+receive d(val)
+a <- n and 127
+L1: if d = 0 goto L2
+q <- n / d
+t <- a shl 56
+c <- t shra 56
+s <- c + 7
+u <- s - 5
+print u
+d <- d - 1
+goto L1
+L2: return a
+end
+$ thorough
+main: begin
+receive n(val)
+receive d(val)
+a <- n and 127
+L1: if d = 0 goto L2
+u <- a + 2
+print u
+d <- d - 1
+goto L1
+L2: return a
+end
+$ run 1000 300 2
+Ended(44) 13 [46, 46]
+$ thorough run 1000 300 2
+Ended(44) 5 [46, 46]
 ";
