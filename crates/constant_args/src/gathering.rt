@@ -137,7 +137,7 @@ fn open_arguments(arguments: &mut Vec<ArgumentState>, count: usize) -> Result<()
     Ok(())
 }
 
-/// JoinsOperand what a call with these operands, which passes on these variables, gives each argument.
+/// Joins to the state of each argument what a call gives it that has these operands and passes on these variables.
 fn join_arguments(arguments: &mut Vec<ArgumentState>, operands: &[Operand], kept: &[Option<usize>])
     ensures { JoinsArguments (length arguments.old.items) operands.now kept.now
         arguments.old.items arguments.new.items }

@@ -27,7 +27,7 @@ pub(crate) fn constant_in(state: ArgumentState) -> Option<i64>
     }
 }
 
-/// What one call more makes of it, which has these operands and passes on these variables; argument `i` is told of.
+/// What one more call makes of the state of argument `i`: it has these operands and passes on these variables.
 pub(crate) fn joined_at(
     state: ArgumentState,
     operands: &[Operand],
@@ -65,7 +65,7 @@ fn operand_is_var(operands: &[Operand], i: usize, x: usize) -> bool
     }
 }
 
-/// What an operand that is not passed on makes of it.
+/// What operand `i` makes of the state, where it does not pass the argument on.
 fn joined(state: ArgumentState, operands: &[Operand], i: usize) -> ArgumentState
     ensures { JoinsOperand state (slice_get operands.now i) result }
 {
@@ -82,7 +82,7 @@ fn joined(state: ArgumentState, operands: &[Operand], i: usize) -> ArgumentState
     }
 }
 
-/// What is state where operand `i` alone counts.
+/// The state where operand `i` alone counts.
 fn first_state(operands: &[Operand], i: usize) -> ArgumentState
     ensures { JoinsOperand ArgumentState.Open (slice_get operands.now i) result }
 {
