@@ -20,11 +20,11 @@ function wantedOwn({ op, args: [a, b] }, k, x) {
 
 // ---- shifts back
 
-// The variable of which a node assigns t so far a shift to the left, or null.
+// The variable of which a node assigns t so far a shift to the left, by a constant written as this distance, or null.
 function shiftedInto(node, t, far) {
   const { kind, into, op, args: [source, by] } = parsed(node);
-  return kind === 'assign' && into === t && op === 'shl' && isVar(source) && source !== t && !isVar(by) && distanceOf(by) === far
-    ? source : null;
+  const is = kind === 'assign' && into === t && op === 'shl' && isVar(source) && source !== t && !isVar(by);
+  return is && BigInt(by) === BigInt(far) ? source : null;
 }
 
 // Whether t is so far a shift of a source before a node: on every path to it that is assigned, and neither since.
