@@ -28,7 +28,7 @@ const KEYS = [['← →', 'step through what a pass finds out', 'ArrowLeft Arrow
   ['n p', 'another unit', ''], ['g x a b', 'graph, text, graphs before and after, busy and lazy', ''],
     ['r', 'a run; . and , walk along it', ''], ['q', 'quiz: columns are asked; space marks a node, Enter checks', ''],
     ['v', 'the verdicts of the pass', ''], ['> <', 'in a run, over the units that are called', ''],
-    ['w o O', 'in a quiz: print a sheet, hand in, the answers', ''], ['1 2 3 4', 'the tables of another command, where they are there', ''],
+    ['w o O', 'in a quiz: print a sheet, hand in, the answers', ''], ['1 2 3 4 5 6 7', 'the tables of another command, where they are there', ''],
     ['c', 'the graph by blocks or by nodes', ''], ['+ − 0', 'size of the graph', ''], ['t', 'dark or light', ''],
     ['i ?', 'index, keys', '']];
 function openKeys() {

@@ -300,7 +300,7 @@ const ACTIONS = {
   ' ': () => { if (state.quiz && hidden(state.col) && columnNow()?.bits) guessAt(state.node); else return false; },
   Enter: () => { if (state.quiz && hidden(state.col)) check(); else return false; },
 };
-for (const key of '123456') ACTIONS[key] = () => goCommand(Number(key) - 1);
+for (const key of '1234567') ACTIONS[key] = () => goCommand(Number(key) - 1);
 Object.assign(ACTIONS, { l: ACTIONS.ArrowRight, h: ACTIONS.ArrowLeft, j: ACTIONS.ArrowDown, k: ACTIONS.ArrowUp });
 document.addEventListener('keydown', event => {
   if (event.ctrlKey || event.altKey || event.metaKey || $('dialog[open]')) return;
