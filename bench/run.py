@@ -294,8 +294,9 @@ def joined_by(word: str, sizes: tuple[tuple[int, int], ...]) -> list[Case]:
     return cases
 
 
-# How many leaves there are, and how many calls of them: with the same leaves, and with leaves for the calls.
-CALLS, LEAVES = ((64, 1_000), (64, 2_000), (64, 4_000)), ((63, 1_008), (126, 2_016), (252, 4_032))
+# How many leaves there are, and how many calls of them: with the same leaves, and with leaves for the calls. With more a
+# unit would be too long, and join leaves it as it is.
+CALLS, LEAVES = ((64, 448), (64, 896), (64, 1_792)), ((28, 448), (56, 896), (112, 1_792))
 
 # What changes calls: what `tails` and `join` write is known.
 UNITS = [

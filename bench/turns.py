@@ -31,9 +31,9 @@ REWRITING = ('optimise', 'move', 'tails', 'join')
 
 
 def words_of_turn() -> list[str]:
-    """The words of `passes` that make one turn."""
-    found = re.search(r'const TURN: [^=]*= \[(.*?)\];', TURN.read_text(), re.DOTALL)
-    return ['passes', *re.findall(r'Pass::(\w+)', found[1].lower().replace('pass::', 'Pass::'))]
+    """The words of `passes` that make one turn: those of its two halves."""
+    halves = re.findall(r'const \w+_HALF: [^=]*= \[(.*?)\];', TURN.read_text(), re.DOTALL)
+    return ['passes', *(word.lower() for half in halves for word in re.findall(r'Pass::(\w+)', half))]
 
 
 def written(mir: str, words: list[str], text: str) -> str:
