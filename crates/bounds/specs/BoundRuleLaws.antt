@@ -33,7 +33,7 @@ use Rattle.bounds.specs.Edges.{AreBounds, comparison, where_is, fact_at, fact_of
 use Rattle.bounds.specs.EdgeLaws.{along_holds, along_mono, may_go_mono, rhs_holds, rhs_mono}
 use Rattle.bounds.specs.ReadingLaws.{frame_rules, length_with}
 use Rattle.bounds.specs.UseLaws.{and_keeps, max_keeps, min_keeps, mod_keeps}
-use Rattle.cond_flow.specs.Rules.{AreHeld, BecomesRhs, LawfulRules, OrderRules, RewritingRules, RisingRules, SoundRules}
+use Rattle.cond_flow.specs.Rules.{AreHeld, BecomesRhs, LawfulRules, OrderRules, RewritingRules, RisingRules, SoundRules, open_outside}
 use Rattle.bounds.specs.BoundRules.{bound_rules, bounded_operand, bounded_rhs, copied, gives_first, gives_second, has_ones, has_zero, is_truth, is_zero, may_vanish, number_of, number_or}
 
 -- ---- order
@@ -436,3 +436,7 @@ bound_laws = record {
   rewriting = rewriting_rules;
   frame = frame_rules;
 }
+
+-- nothing is known outside
+pub bound_open : bound_rules.outside ≡ open_outside
+bound_open = refl

@@ -14,7 +14,7 @@ use Rattle.bounds.specs.Ends.{end_value}
 use Rattle.bounds.specs.Facts.{fact_rank, high_of, joined_fact, low_of}
 use Rattle.bounds.specs.Bounding.{bounds_of}
 use Rattle.bounds.specs.Edges.{anything, fact_at, fact_of, fact_of_rhs, facts_along, may_go}
-use Rattle.cond_flow.specs.Rules.{Rules}
+use Rattle.cond_flow.specs.Rules.{Rules, open_outside}
 
 -- the variable, or the number that it is known to be
 abbrev pub number_or : Fact → ℕ → Operand
@@ -123,4 +123,5 @@ bound_rules = record {
   operand = bounded_operand;
   rhs = bounded_rhs;
   may_vanish = may_vanish;
+  outside = open_outside;
 }

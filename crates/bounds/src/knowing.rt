@@ -1,7 +1,7 @@
 // Facts as what is known of variables.
 ghost use Rattle.bounds.specs.Facts.{BelowFact, Bounds};
 ghost use Rattle.bounds.specs.BoundRules.{bound_rules};
-ghost use Rattle.bounds.specs.BoundRuleLaws.{bound_laws};
+ghost use Rattle.bounds.specs.BoundRuleLaws.{bound_laws, bound_open};
 
 use crate::facts::{Fact, are_same, joined_fact};
 use crate::reading::{anything, fact_of_rhs};
@@ -54,4 +54,6 @@ impl Knowledge for Fact {
     }
 
     ghost laws = { bound_laws };
+
+    ghost is_open = { bound_open };
 }

@@ -12,7 +12,7 @@ use Rattle.mir_base.specs.declared.instructions.Test as tests
 use Rattle.mir_base.specs.declared.instructions.Test.TheVariants.{Rel, Holds, Fails}
 use Rattle.mir_base.specs.Expressions.{may_be_zero}
 use Rattle.mir_base.specs.Numbers.{wrapped, traps, value_of_op, value_of_un_op, relation_holds}
-use Rattle.cond_flow.specs.Rules.{Rules}
+use Rattle.cond_flow.specs.Rules.{Rules, open_outside}
 use Rattle.cond_const.specs.declared.known.Known.{Known}
 use Rattle.cond_const.specs.declared.known.Known.TheVariants.{Fixed, Varying}
 use Rattle.cond_const.specs.declared.identities.Identity.{Identity}
@@ -147,4 +147,5 @@ fold_rules = record {
   operand = resolved;
   rhs = folded_rhs;
   may_vanish = λ known a. may_be_zero (resolved known a);
+  outside = open_outside;
 }

@@ -10,7 +10,7 @@ use Rattle.mir_base.specs.Expressions.{may_be_zero}
 use Rattle.mir_base.specs.Numbers.{is_dividing, wrapped, traps, value_of_op}
 use Rattle.mir_base.specs.Shapes.{AllBelow, operand_vars, rhs_vars}
 use Rattle.mir_base.specs.BelowLaws.{all_below_left, all_below_right, all_below_append}
-use Rattle.cond_flow.specs.Rules.{LawfulRules, RewritingRules}
+use Rattle.cond_flow.specs.Rules.{LawfulRules, RewritingRules, open_outside}
 use Rattle.cond_const.specs.declared.known.Known.{Known}
 use Rattle.cond_const.specs.declared.known.Known.TheVariants.{Fixed, Varying}
 use Rattle.cond_const.specs.declared.identities.Identity.{Identity}
@@ -133,3 +133,7 @@ rewriting_rules = record {
 -- all laws
 pub fold_laws : LawfulRules BelowKnown HasValue fold_rules
 fold_laws = record { order = order_rules; rising = rising_rules; sound = sound_rules; rewriting = rewriting_rules; frame = frame_rules }
+
+-- nothing is known outside
+pub fold_open : fold_rules.outside ≡ open_outside
+fold_open = refl

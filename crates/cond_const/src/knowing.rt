@@ -1,7 +1,7 @@
 // Constants as what is known of variables.
 ghost use Rattle.cond_const.specs.States.{BelowKnown, HasValue, is_varying};
 ghost use Rattle.cond_const.specs.Folding.{decoded_known, fold_rules, number_of};
-ghost use Rattle.cond_const.specs.RewritingLaws.{fold_laws, known_stands};
+ghost use Rattle.cond_const.specs.RewritingLaws.{fold_laws, known_stands, fold_open};
 
 use crate::known::{Known, are_same, folded_rhs, joined_known, known_rhs, may_go, resolved};
 use cond_flow::{Coded, Facts, Knowledge};
@@ -81,4 +81,6 @@ impl Knowledge for Known {
     }
 
     ghost laws = { fold_laws };
+
+    ghost is_open = { fold_open };
 }

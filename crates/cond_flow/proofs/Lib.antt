@@ -5,11 +5,10 @@ pub mod FactLaws
 pub mod Joins
 pub mod JoinCases
 pub mod Rewrites
-pub mod Sound
-pub mod Runs
 pub mod Shapes
 pub mod Whole
 pub mod ReadingLaws
 pub mod RaisingLaws
 pub mod TakingLaws
 pub mod PushLaws
+pub mod TransferLaws

@@ -10,10 +10,11 @@ use Rattle.cond_flow.specs.NewsShapes.{NewsShape, is_among}
 use Rattle.cond_flow.specs.Passing.{passed_along}
 use Rattle.cond_flow.specs.Raising.{IsRaised}
 use Rattle.cond_flow.specs.Reading.{AreApart, ReadsAlike, touches}
-use Rattle.cond_flow.specs.Rules.{Rules, FrameRules, OrderRules, RisingRules, known_at}
+use Rattle.cond_flow.specs.Rules.{OutsideShape, Rules, FrameRules, OrderRules, RisingRules, known_at, within}
 use Rattle.cond_flow.specs.States.{NodeState, Unreached, Knows, BelowState, is_reached, state_where}
 use Rattle.cond_flow.proofs.RaisingLaws.{raised_joins}
-use Rattle.cond_flow.proofs.ReadingLaws.{AgreeStates, agree_node, out_alike, out_stays}
+use Rattle.cond_flow.specs.WithinLaws.{frame_within, order_within, rising_within}
+use Rattle.cond_flow.proofs.ReadingLaws.{AgreeStates, agree_node, out_alike, out_stays, reads_within, states_without, stays_without}
 
 -- a state is reached where it is said so
 pub reached_where : {K : Type 0} (b : Bool) (ks : List K) → is_reached (state_where b ks) ≡ b
@@ -41,28 +42,41 @@ reads_off rules shared nodes list raised xs ks apart off = record {
       ]);
 }
 
-module _ {K : Type 0} {below : K → K → Type 0} {rules : Rules K} (frame : FrameRules rules) (order : OrderRules below rules) (rising : RisingRules below rules) (shared : ℕ) (received : List ℕ) (nodes : List Node) (list : List ℕ) (slot : ℕ) (some : 0 < length list) where
+module _ {K : Type 0} {below : K → K → Type 0} {rules : Rules K} (frame : FrameRules rules) (order : OrderRules below rules) (rising : RisingRules below rules) (outside : OutsideShape K) (shared : ℕ) (received : List ℕ) (nodes : List Node) (list : List ℕ) (slot : ℕ) (some : 0 < length list) where
+  -- what passes out of the block
+  abbrev out : NodeState K → NodeState K
+  out s = out_of (passed_along (within outside rules) shared received) nodes list slot s
+
+  -- lists that agree on what the block reads let pass what agrees where they do
+  outs_alike : (xs ys : List K) → length xs ≡ length ys → ReadsAlike rules nodes list xs ys
+      → AgreeStates rules xs ys (out (Knows xs)) (out (Knows ys))
+  outs_alike xs ys long reads =
+      states_without rules outside xs ys _ _
+      (out_alike (frame_within rules outside frame) (order_within outside order) (rising_within outside rising) shared received xs ys nodes list slot some long (reads_within rules outside nodes list xs ys reads))
+
   -- what was raised is all that is left to join
   pub past_joins : (raised : List ℕ) (xs old new : List K) → AreApart shared nodes list raised
-      → HasPassed below rules (λ s. out_of (passed_along rules shared received) nodes list slot s) raised (Knows xs) (Knows old)
-      → (is_reached (out_of (passed_along rules shared received) nodes list slot (Knows xs)) ≡ true → IsRaised below rules raised xs old new)
-      → (is_reached (out_of (passed_along rules shared received) nodes list slot (Knows xs)) ≡ false → new ≡ old)
-      → IsLeastUpper (BelowState below) (Knows old) (out_of (passed_along rules shared received) nodes list slot (Knows xs)) (Knows new)
+      → HasPassed below rules (λ s. out s) raised (Knows xs) (Knows old)
+      → (is_reached (out (Knows xs)) ≡ true → IsRaised below rules raised xs old new)
+      → (is_reached (out (Knows xs)) ≡ false → new ≡ old)
+      → IsLeastUpper (BelowState below) (Knows old) (out (Knows xs)) (Knows new)
   past_joins raised xs old new apart was reaches never = by was.before was.off was.passed
     where
       by : (before : NodeState K) → AreOff rules raised before (Knows xs)
-          → BelowState below (out_of (passed_along rules shared received) nodes list slot before) (Knows old)
-          → IsLeastUpper (BelowState below) (Knows old) (out_of (passed_along rules shared received) nodes list slot (Knows xs)) (Knows new)
+          → BelowState below (out before) (Knows old)
+          → IsLeastUpper (BelowState below) (Knows old) (out (Knows xs)) (Knows new)
       by (Unreached n) off passed = absurd off
       by (Knows ks) off passed =
           raised_joins order rising raised xs ks old new _ _ off
-          (out_alike frame order rising shared received xs ks nodes list slot some (sym off.long) (reads_off rules shared nodes list raised xs ks apart off))
-          passed (λ k on. out_stays frame order rising shared received k xs nodes list slot some (apart.each k on)) reaches never
+          (outs_alike xs ks (sym off.long) (reads_off rules shared nodes list raised xs ks apart off))
+          passed
+          (λ k on. stays_without rules outside k xs _ (out_stays (frame_within rules outside frame) (order_within outside order) (rising_within outside rising) shared received k xs nodes list slot some (apart.each k on)))
+          reaches never
 
   -- and along an edge to itself nothing is
   pub round_joins : (raised : List ℕ) (xs : List K) → AreApart shared nodes list raised
-      → HasPassed below rules (λ s. out_of (passed_along rules shared received) nodes list slot s) raised (Knows xs) (Knows xs)
-      → IsLeastUpper (BelowState below) (Knows xs) (out_of (passed_along rules shared received) nodes list slot (Knows xs)) (Knows xs)
+      → HasPassed below rules (λ s. out s) raised (Knows xs) (Knows xs)
+      → IsLeastUpper (BelowState below) (Knows xs) (out (Knows xs)) (Knows xs)
   round_joins raised xs apart was =
       past_joins raised xs xs xs apart was
       (λ _. record {
@@ -73,11 +87,11 @@ module _ {K : Type 0} {below : K → K → Type 0} {rules : Rules K} (frame : Fr
 
   -- whether anything passes is found out by what is read
   pub passes_by_read : (xs ys : List K) → length xs ≡ length ys → ReadsAlike rules nodes list xs ys → (b : Bool) (zs : List K)
-      → state_where b zs ≡ out_of (passed_along rules shared received) nodes list slot (Knows ys)
-      → b ≡ is_reached (out_of (passed_along rules shared received) nodes list slot (Knows xs))
+      → state_where b zs ≡ out (Knows ys)
+      → b ≡ is_reached (out (Knows xs))
   passes_by_read xs ys long reads b zs is =
       sym (reached_where b zs) ∙ ap is_reached is
-      ∙ sym (reached_alike rules xs ys _ _ (out_alike frame order rising shared received xs ys nodes list slot some long reads))
+      ∙ sym (reached_alike rules xs ys _ _ (outs_alike xs ys long reads))
 
 -- ---- states of blocks as they are kept
 

@@ -15,52 +15,70 @@ use Rattle.mir_base.specs.declared.instructions.Test.TheVariants.{Rel, Holds, Fa
 use Rattle.flow_graph.specs.declared.nodes.Node.{Node}
 use Rattle.flow_graph.specs.declared.nodes.Node.TheVariants.{Start, Skip, Assign, Print, Guard, Call, Test, Return}
 use Rattle.cond_flow.specs.Blockwise.{along_at, last_of, out_of, through_nodes}
-use Rattle.cond_flow.specs.Passing.{after_call, all_set, known_after, passed_along, passes, passes_by, start_known}
+use Rattle.cond_flow.specs.Passing.{after_call, all_set, back_at, known_after, passed_along, passes, passes_by, start_known}
 use Rattle.cond_flow.specs.PassingLaws.{length_after, length_set}
 use Rattle.cond_flow.specs.Reading.{AgreeOnNode, IsApart, ReadsAlike, has_rhs, is_into, touches}
-use Rattle.cond_flow.specs.Rules.{Rules, AgreeOn, AgreeOnRhs, AgreeOnTest, FrameRules, OrderRules, RisingRules, has_test, is_operand, known_at}
+use Rattle.cond_flow.specs.Rules.{OutsideShape, Rules, AgreeOn, AgreeOnRhs, AgreeOnTest, FrameRules, OrderRules, RisingRules, has_test, is_operand, known_at, within}
 use Rattle.cond_flow.specs.SetLaws.{set_alike, set_apart}
 use Rattle.cond_flow.specs.States.{NodeState, Unreached, Knows}
+use Rattle.cond_flow.specs.WithinLaws.{rhs_within, test_within}
 
 module _ {K : Type 0} (rules : Rules K) where
   -- ---- several variables set
 
   -- of two lists
-  all_alike : (vars : List ℕ) (v : K) (xs ys : List K) (k : ℕ) → length xs ≡ length ys
+  all_alike : (vars : List ℕ) (of : ℕ → K) (i : ℕ) (xs ys : List K) (k : ℕ) → length xs ≡ length ys
       → known_at rules xs k ≡ known_at rules ys k
-      → known_at rules (all_set v vars xs) k ≡ known_at rules (all_set v vars ys) k
-  all_alike [] v xs ys k long h = h
-  all_alike (x ∷ vars) v xs ys k long h =
-      all_alike vars v (slice_set xs x v) (slice_set ys x v) k (length-set xs x v ∙ long ∙ sym (length-set ys x v))
-      (set_alike rules xs ys x v v k long refl h)
+      → known_at rules (all_set of i vars xs) k ≡ known_at rules (all_set of i vars ys) k
+  all_alike [] of i xs ys k long h = h
+  all_alike (x ∷ vars) of i xs ys k long h =
+      all_alike vars of (suc i) (slice_set xs x (of i)) (slice_set ys x (of i)) k (length-set xs x (of i) ∙ long ∙ sym (length-set ys x (of i)))
+      (set_alike rules xs ys x (of i) (of i) k long refl h)
 
   -- and a variable that is not among so many numbers from the first on
-  past_apart : (count first : ℕ) (v : K) (xs : List K) (k : ℕ) → first + count ≤ k
-      → known_at rules (all_set v (range_with_len first count) xs) k ≡ known_at rules xs k
-  past_apart zero first v xs k past = refl
-  past_apart (suc count) first v xs k past =
-      past_apart count (first + 1) v (slice_set xs first v) k (omega (arith, past))
-      ∙ get_or-set_other xs first k v rules.top (λ e. omega (arith, past, e))
+  past_apart : (count first : ℕ) (of : ℕ → K) (i : ℕ) (xs : List K) (k : ℕ) → first + count ≤ k
+      → known_at rules (all_set of i (range_with_len first count) xs) k ≡ known_at rules xs k
+  past_apart zero first of i xs k past = refl
+  past_apart (suc count) first of i xs k past =
+      past_apart count (first + 1) of (suc i) (slice_set xs first (of i)) k (omega (arith, past))
+      ∙ get_or-set_other xs first k (of i) rules.top (λ e. omega (arith, past, e))
 
   -- ---- after a call
 
   -- of two lists
-  called_alike : (shared : ℕ) (into : Option ℕ) (xs ys : List K) (k : ℕ) → length xs ≡ length ys
+  called_alike : (shared : ℕ) (into : Option ℕ) (unit : ℕ) (xs ys : List K) (k : ℕ) → length xs ≡ length ys
       → known_at rules xs k ≡ known_at rules ys k
-      → known_at rules (after_call rules shared into xs) k ≡ known_at rules (after_call rules shared into ys) k
-  called_alike shared None xs ys k long h = all_alike (shared_vars shared) rules.top xs ys k long h
-  called_alike shared (Some x) xs ys k long h =
-      set_alike rules (all_set rules.top (shared_vars shared) xs) (all_set rules.top (shared_vars shared) ys) x rules.top rules.top k
-      (length_set rules.top (shared_vars shared) xs ∙ long ∙ sym (length_set rules.top (shared_vars shared) ys)) refl
-      (all_alike (shared_vars shared) rules.top xs ys k long h)
+      → known_at rules (after_call rules shared into unit xs) k ≡ known_at rules (after_call rules shared into unit ys) k
+  called_alike shared None unit xs ys k long h = all_alike (shared_vars shared) (known_at rules (back_at rules unit)) 0 xs ys k long h
+  called_alike shared (Some x) unit xs ys k long h =
+      let of : ℕ → K = known_at rules (back_at rules unit) in
+      set_alike rules (all_set of 0 (shared_vars shared) xs) (all_set of 0 (shared_vars shared) ys) x (of shared) (of shared) k
+      (length_set of 0 (shared_vars shared) xs ∙ long ∙ sym (length_set of 0 (shared_vars shared) ys)) refl
+      (all_alike (shared_vars shared) of 0 xs ys k long h)
 
   -- and a variable that is no global and does not get the result
-  called_apart : (shared : ℕ) (into : Option ℕ) (xs : List K) (k : ℕ) → shared ≤ k → is_into into k ≡ false
-      → known_at rules (after_call rules shared into xs) k ≡ known_at rules xs k
-  called_apart shared None xs k past apart = past_apart shared 0 rules.top xs k (omega (arith, past))
-  called_apart shared (Some x) xs k past apart =
-      set_apart rules (all_set rules.top (shared_vars shared) xs) x rules.top k apart
-      ∙ past_apart shared 0 rules.top xs k (omega (arith, past))
+  called_apart : (shared : ℕ) (into : Option ℕ) (unit : ℕ) (xs : List K) (k : ℕ) → shared ≤ k → is_into into k ≡ false
+      → known_at rules (after_call rules shared into unit xs) k ≡ known_at rules xs k
+  called_apart shared None unit xs k past apart = past_apart shared 0 (known_at rules (back_at rules unit)) 0 xs k (omega (arith, past))
+  called_apart shared (Some x) unit xs k past apart =
+      let of : ℕ → K = known_at rules (back_at rules unit) in
+      set_apart rules (all_set of 0 (shared_vars shared) xs) x (of shared) k apart
+      ∙ past_apart shared 0 of 0 xs k (omega (arith, past))
+
+  -- ---- after Start
+
+  -- of two lists
+  started_alike : (shared : ℕ) (received : List ℕ) (xs ys : List K) (k : ℕ) → length xs ≡ length ys
+      → known_at rules xs k ≡ known_at rules ys k
+      → known_at rules (start_known rules shared received xs) k ≡ known_at rules (start_known rules shared received ys) k
+  started_alike shared received xs ys k long h =
+      let of : ℕ → K = λ i. known_at rules rules.outside.entry (shared + i) in
+      let none : ℕ → K = λ i. rules.zero in
+      let cleared : ℕ → List K → List K = λ n. all_set none shared (range_with_len shared (n - shared)) in
+      ap (λ n. known_at rules (all_set of 0 received (cleared n xs)) k) long
+      ∙ all_alike received of 0 (cleared (length ys) xs) (cleared (length ys) ys) k
+      (length_set none shared (range_with_len shared (length ys - shared)) xs ∙ long ∙ sym (length_set none shared (range_with_len shared (length ys - shared)) ys))
+      (all_alike (range_with_len shared (length ys - shared)) none shared xs ys k long h)
 
   -- ---- what agrees
 
@@ -182,12 +200,12 @@ module _ {K : Type 0} {below : K → K → Type 0} {rules : Rules K} (frame : Fr
   after_alike : (node : Node) (slot : ℕ) (xs ys : List K) (k : ℕ) → length xs ≡ length ys → AgreeOnNode rules xs ys node
       → known_at rules xs k ≡ known_at rules ys k
       → known_at rules (known_after rules shared received node slot xs) k ≡ known_at rules (known_after rules shared received node slot ys) k
-  after_alike (Start next) slot xs ys k long on h = ap (λ n. known_at rules (start_known rules shared received n) k) long
+  after_alike (Start next) slot xs ys k long on h = started_alike rules shared received xs ys k long h
   after_alike (Skip next) slot xs ys k long on h = h
   after_alike (Assign x rhs next) slot xs ys k long on h = set_alike rules xs ys x (rules.of_rhs xs rhs) (rules.of_rhs ys rhs) k long (frame.right_side rhs xs ys on) h
   after_alike (Print a next) slot xs ys k long on h = h
   after_alike (Guard test number next) slot xs ys k long on h = h
-  after_alike (Call into unit operands next) slot xs ys k long on h = called_alike rules shared into xs ys k long h
+  after_alike (Call into unit operands next) slot xs ys k long on h = called_alike rules shared into unit xs ys k long h
   after_alike (Test test one other) slot xs ys k long on h = frame.along test (nat_eq slot 0) xs ys k long on h
   after_alike (Return a) slot xs ys k long on h = h
 
@@ -266,7 +284,7 @@ module _ {K : Type 0} {below : K → K → Type 0} {rules : Rules K} (frame : Fr
   after_apart (Guard test number next) slot ks k apart = refl
   after_apart (Call into unit operands next) slot ks k apart =
       let parts = or_parts (nat_lt k shared) (is_into into k) apart in
-      called_apart rules shared into ks k (ltb-false k shared parts.0) parts.1
+      called_apart rules shared into unit ks k (ltb-false k shared parts.0) parts.1
   after_apart (Test test one other) slot ks k apart = frame.apart test (nat_eq slot 0) ks k apart
   after_apart (Return a) slot ks k apart = refl
 
@@ -299,3 +317,35 @@ module _ {K : Type 0} {below : K → K → Type 0} {rules : Rules K} (frame : Fr
       (λ node is. apart.each (length list - 1) (last_of list) node (last_at list some) is)
       (through_stays k xs nodes (take (length list - 1) list) (Knows xs)
       (λ i n node at is. apart.each i n node (take_some (length list - 1) list i n at) is) refl)
+
+-- ---- whatever is known outside
+
+module _ {K : Type 0} (rules : Rules K) (outside : OutsideShape K) where
+  -- lists agree on what a node reads
+  node_within : (xs ys : List K) (node : Node) → AgreeOnNode rules xs ys node → AgreeOnNode (within outside rules) xs ys node
+  node_within xs ys (Start next) h = tt
+  node_within xs ys (Skip next) h = tt
+  node_within xs ys (Assign x rhs next) h = rhs_within rules outside xs ys rhs h
+  node_within xs ys (Print a next) h = tt
+  node_within xs ys (Guard test number next) h = tt
+  node_within xs ys (Call into unit operands next) h = tt
+  node_within xs ys (Test test one other) h = test_within rules outside xs ys test h
+  node_within xs ys (Return a) h = tt
+
+  -- and on what several do
+  pub reads_within : (nodes : List Node) (list : List ℕ) (xs ys : List K) → ReadsAlike rules nodes list xs ys
+      → ReadsAlike (within outside rules) nodes list xs ys
+  reads_within nodes list xs ys h = record { each = λ i n node at is. node_within xs ys node (h.each i n node at is) }
+
+  -- states agree
+  pub states_without : (xs ys : List K) (s t : NodeState K) → AgreeStates (within outside rules) xs ys s t
+      → AgreeStates rules xs ys s t
+  states_without xs ys (Unreached n) (Unreached m) h = h
+  states_without xs ys (Unreached n) (Knows ks) h = absurd h
+  states_without xs ys (Knows ks) (Unreached m) h = absurd h
+  states_without xs ys (Knows ks) (Knows ls) h = record { long = h.long; each = h.each }
+
+  -- and have of a variable what a list has
+  pub stays_without : (k : ℕ) (xs : List K) (s : NodeState K) → StaysAt (within outside rules) k xs s → StaysAt rules k xs s
+  stays_without k xs (Unreached n) h = tt
+  stays_without k xs (Knows ks) h = h

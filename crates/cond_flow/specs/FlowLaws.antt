@@ -9,7 +9,9 @@ use Rattle.cond_flow.specs.Passing.{first_known}
 use Rattle.cond_flow.specs.Blockwise.{Along, AlongLaws, along_at, through_nodes, last_of, out_of, block_at, state_net, IsStateNet}
 use Rattle.cond_flow.specs.Flows.{IsStateFlow, net_of}
 use Rattle.cond_flow.specs.StateLaws.{rank_bound}
+use Rattle.cond_flow.specs.Outsides.{outside_of, rules_in}
 use Rattle.cond_flow.specs.PassingLaws.{passing_laws}
+use Rattle.cond_flow.specs.WithinLaws.{order_within, rising_within}
 
 -- ---- what passes through nodes
 
@@ -88,6 +90,8 @@ pub flow_laws : {K : Type 0} {below : K → K → Type 0} {rules : Rules K} (ord
     (rising : RisingRules below rules) {L : Type 0} (f : StateFlow K L) → IsStateFlow rules f
     → NetLaws (BelowState below) size_of (state_rank rules.rank) (net_of rules f)
 flow_laws {rules = rules} order rising f is =
-    net_laws order (passing_laws order rising f.graph.now.shared f.graph.now.received)
-    (first_known rules f.graph.now.shared (length f.graph.now.vars)) f.graph.now.nodes f.blocks.now.lists f.entry
-    f.targets.now is.is_net
+    let order' = order_within (outside_of f.outside.now) order in
+    let rising' = rising_within (outside_of f.outside.now) rising in
+    net_laws order' (passing_laws order' rising' f.graph.now.shared f.graph.now.received)
+    (first_known (rules_in f.outside.now rules) f.graph.now.shared (length f.graph.now.vars)) f.graph.now.nodes
+    f.blocks.now.lists f.entry f.targets.now is.is_net

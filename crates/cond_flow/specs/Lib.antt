@@ -2,6 +2,8 @@ pub mod FactLists
 pub mod States
 pub mod Rules
 pub mod Passing
+pub mod Outsides
+pub mod WithinLaws
 pub mod Becoming
 pub mod Blockwise
 pub mod Flows
@@ -11,10 +13,13 @@ pub mod Rewritten
 pub mod KnownBefore
 pub mod Telling
 pub mod Holding
+pub mod Handing
 pub mod StateLaws
 pub mod PassingLaws
 pub mod FlowLaws
 pub mod BecomingLaws
+pub mod SoundLaws
+pub mod StepLaws
 pub mod NewsShapes
 pub mod Raising
 pub mod Reading

@@ -1,41 +1,52 @@
 -- What is known after a node, and along which of its edges it passes. Cited by contracts.
-use Rattle.std.specs.Prelude.{ℕ, Bool, true, false, if◌then◌else◌, nat_eq, List, [], ◌∷◌, length, replicate, slice_set, Option, Some, None}
+use Rattle.std.specs.Prelude.{ℕ, suc, ◌+◌, ◌-◌, Bool, true, false, if◌then◌else◌, nat_eq, List, [], ◌∷◌, length, replicate, slice_index_or, slice_set, Option, Some, None}
+use Rattle.std.specs.List.{range_with_len}
 use Rattle.mir_base.specs.Frames.{shared_vars}
 use Rattle.flow_graph.specs.declared.nodes.Node.{Node}
 use Rattle.flow_graph.specs.declared.nodes.Node.TheVariants.{Start, Skip, Assign, Print, Guard, Call, Test, Return}
-use Rattle.cond_flow.specs.Rules.{Rules}
+use Rattle.cond_flow.specs.Rules.{Rules, known_at}
 use Rattle.cond_flow.specs.States.{NodeState, Unreached, Knows}
 
--- nothing is known of these variables any more
-abbrev pub all_set : {K : Type 0} → K → List ℕ → List K → List K
-all_set k [] known = known
-all_set k (x ∷ xs) known = all_set k xs (slice_set known x k)
+-- of these variables is known what `of` has from number i on
+abbrev pub all_set : {K : Type 0} → (ℕ → K) → ℕ → List ℕ → List K → List K
+all_set of i [] known = known
+all_set of i (x ∷ xs) known = all_set of (suc i) xs (slice_set known x (of i))
 
--- before Start: the globals may be anything, and the others are 0
+-- before Start: of the globals is known what is known outside, and the others are 0
 abbrev pub first_known : {K : Type 0} → Rules K → ℕ → ℕ → List K
-first_known rules shared size = all_set rules.top (shared_vars shared) (replicate size rules.zero)
+first_known rules shared size =
+    all_set (known_at rules rules.outside.entry) 0 (shared_vars shared) (replicate size rules.zero)
 
--- after Start: globals and received variables may be anything, and the others are 0
-abbrev pub start_known : {K : Type 0} → Rules K → ℕ → List ℕ → ℕ → List K
-start_known rules shared received size = all_set rules.top received (first_known rules shared size)
+-- after Start: of received variables is known what is known outside, where there are so many globals; the globals stay,
+-- and the others are 0
+abbrev pub start_known : {K : Type 0} → Rules K → ℕ → List ℕ → List K → List K
+start_known rules shared received known =
+    all_set (λ i. known_at rules rules.outside.entry (shared + i)) 0 received
+    (all_set (λ i. rules.zero) shared (range_with_len shared (length known - shared)) known)
 
--- after a call the globals and its variable may be anything
-abbrev pub after_call : {K : Type 0} → Rules K → ℕ → Option ℕ → List K → List K
-after_call rules shared None known = all_set rules.top (shared_vars shared) known
-after_call rules shared (Some x) known =
-    slice_set (all_set rules.top (shared_vars shared) known) x rules.top
+-- what is known of what a unit hands back
+abbrev pub back_at : {K : Type 0} → Rules K → ℕ → List K
+back_at rules unit = slice_index_or rules.outside.backs unit []
+
+-- after a call of a unit: of the globals and its variable is known what is known of what that hands back
+abbrev pub after_call : {K : Type 0} → Rules K → ℕ → Option ℕ → ℕ → List K → List K
+after_call rules shared None unit known =
+    all_set (known_at rules (back_at rules unit)) 0 (shared_vars shared) known
+after_call rules shared (Some x) unit known =
+    slice_set (all_set (known_at rules (back_at rules unit)) 0 (shared_vars shared) known) x
+    (known_at rules (back_at rules unit) shared)
 
 -- what is known after a node, along the edge at this slot
 abbrev pub known_after : {K : Type 0} → Rules K → ℕ → List ℕ → Node → ℕ → List K → List K
 known_after rules shared received (Start next) slot known =
-    start_known rules shared received (length known)
+    start_known rules shared received known
 known_after rules shared received (Skip next) slot known = known
 known_after rules shared received (Assign x rhs next) slot known =
     slice_set known x (rules.of_rhs known rhs)
 known_after rules shared received (Print a next) slot known = known
 known_after rules shared received (Guard test number next) slot known = known
 known_after rules shared received (Call into unit operands next) slot known =
-    after_call rules shared into known
+    after_call rules shared into unit known
 known_after rules shared received (Test test taken other) slot known =
     rules.along test (nat_eq slot 0) known
 known_after rules shared received (Return a) slot known = known

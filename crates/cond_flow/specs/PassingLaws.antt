@@ -1,42 +1,49 @@
 -- What passes along an edge rises, keeps the number of variables, and nothing passes where there is no edge. For proofs
 -- only.
-use Rattle.std.proofs.Common.{◌≡◌, ℕ, zero, suc, Bool, true, false, if◌then◌else◌, nat_eq, List, [], ◌∷◌, length, replicate, slice_get, Option, Some, None, refl, sym, ap, ◌∙◌, subst, arith, length-set, slice_set}
+use Rattle.std.proofs.Common.{◌≡◌, ℕ, zero, suc, ◌+◌, ◌-◌, Bool, true, false, if◌then◌else◌, nat_eq, List, [], ◌∷◌, length, replicate, slice_get, Option, Some, None, refl, sym, ap, ◌∙◌, subst, arith, length-set, slice_set}
 use Rattle.std.proofs.lemmas.Bool.{ne_eqb}
 use Rattle.std.proofs.lemmas.List.{length-replicate}
+use Rattle.std.specs.List.{range_with_len}
 use Rattle.fix_solve.specs.Pointwise.{Pointwise, pointwise_length, pointwise_refl}
 use Rattle.mir_base.specs.Frames.{shared_vars}
 use Rattle.flow_graph.specs.Graphs.{node_succs}
 use Rattle.flow_graph.specs.declared.nodes.Node.{Node}
 use Rattle.flow_graph.specs.declared.nodes.Node.TheVariants.{Start, Skip, Assign, Print, Guard, Call, Test, Return}
-use Rattle.cond_flow.specs.Rules.{Rules, OrderRules, RisingRules, known_at}
+use Rattle.cond_flow.specs.Rules.{OutsideShape, Rules, OrderRules, RisingRules, known_at, within}
 use Rattle.cond_flow.specs.States.{NodeState, Unreached, Knows, size_of, BelowState}
 use Rattle.cond_flow.specs.StateLaws.{below_size, unreached_below}
-use Rattle.cond_flow.specs.Passing.{all_set, first_known, start_known, after_call, known_after, passes_by, passes, passed_along}
+use Rattle.cond_flow.specs.Passing.{all_set, first_known, start_known, after_call, back_at, known_after, passes_by, passes, passed_along}
 use Rattle.cond_flow.specs.Blockwise.{AlongLaws}
+use Rattle.cond_flow.specs.WithinLaws.{order_within, rising_within}
 
 -- ---- the number of variables stays
 
 module _ {K : Type 0} where
   -- where variables are set
-  pub length_set : (k : K) (vars : List ℕ) (ks : List K) → length (all_set k vars ks) ≡ length ks
-  length_set k [] ks = refl
-  length_set k (x ∷ xs) ks = length_set k xs (slice_set ks x k) ∙ length-set ks x k
+  pub length_set : (of : ℕ → K) (i : ℕ) (vars : List ℕ) (ks : List K) → length (all_set of i vars ks) ≡ length ks
+  length_set of i [] ks = refl
+  length_set of i (x ∷ xs) ks = length_set of (suc i) xs (slice_set ks x (of i)) ∙ length-set ks x (of i)
 
   module _ (rules : Rules K) where
     -- before Start each variable has its entry
     pub length_first : (shared n : ℕ) → length (first_known rules shared n) ≡ n
     length_first shared n =
-        length_set rules.top (shared_vars shared) (replicate n rules.zero) ∙ length-replicate n rules.zero
+        length_set (known_at rules rules.outside.entry) 0 (shared_vars shared) (replicate n rules.zero)
+        ∙ length-replicate n rules.zero
 
     -- after Start as many variables are known
-    length_start : (shared : ℕ) (received : List ℕ) (n : ℕ) → length (start_known rules shared received n) ≡ n
-    length_start shared received n = length_set rules.top received (first_known rules shared n) ∙ length_first shared n
+    length_start : (shared : ℕ) (received : List ℕ) (ks : List K) → length (start_known rules shared received ks) ≡ length ks
+    length_start shared received ks =
+        length_set (λ i. known_at rules rules.outside.entry (shared + i)) 0 received _
+        ∙ length_set (λ i. rules.zero) shared (range_with_len shared (length ks - shared)) ks
 
     -- and after a call as many as before
-    length_after_call : (shared : ℕ) (into : Option ℕ) (ks : List K) → length (after_call rules shared into ks) ≡ length ks
-    length_after_call shared None ks = length_set rules.top (shared_vars shared) ks
-    length_after_call shared (Some x) ks =
-        length-set (all_set rules.top (shared_vars shared) ks) x rules.top ∙ length_set rules.top (shared_vars shared) ks
+    length_after_call : (shared : ℕ) (into : Option ℕ) (unit : ℕ) (ks : List K)
+        → length (after_call rules shared into unit ks) ≡ length ks
+    length_after_call shared None unit ks = length_set (known_at rules (back_at rules unit)) 0 (shared_vars shared) ks
+    length_after_call shared (Some x) unit ks =
+        length-set (all_set (known_at rules (back_at rules unit)) 0 (shared_vars shared) ks) x (known_at rules (back_at rules unit) shared)
+        ∙ length_set (known_at rules (back_at rules unit)) 0 (shared_vars shared) ks
 
 module _ {K : Type 0} {below : K → K → Type 0} {rules : Rules K} (order : OrderRules below rules) (rising : RisingRules below rules) where
   -- variable by variable
@@ -48,7 +55,7 @@ module _ {K : Type 0} {below : K → K → Type 0} {rules : Rules K} (order : Or
   below_at (k ∷ xs) (y ∷ ys) (suc x) p = below_at xs ys x p.1
 
   -- and after one of them is set
-  below_set : (xs ys : List K) (x : ℕ) (k k' : K) → Pointwise below xs ys → below k k'
+  pub below_set : (xs ys : List K) (x : ℕ) (k k' : K) → Pointwise below xs ys → below k k'
       → Pointwise below (slice_set xs x k) (slice_set ys x k')
   below_set [] [] x k k' p q = tt
   below_set [] (y ∷ ys) x k k' p q = absurd p
@@ -56,46 +63,55 @@ module _ {K : Type 0} {below : K → K → Type 0} {rules : Rules K} (order : Or
   below_set (z ∷ xs) (y ∷ ys) zero k k' p q = (q, p.1)
   below_set (z ∷ xs) (y ∷ ys) (suc x) k k' p q = (p.0, below_set xs ys x k k' p.1 q)
 
-  -- variables that may be anything on both sides
-  set_rises : (vars : List ℕ) (xs ys : List K) → Pointwise below xs ys
-      → Pointwise below (all_set rules.top vars xs) (all_set rules.top vars ys)
-  set_rises [] xs ys p = p
-  set_rises (x ∷ vars) xs ys p =
-      set_rises vars (slice_set xs x rules.top) (slice_set ys x rules.top)
-      (below_set xs ys x rules.top rules.top p (order.reflexive rules.top))
+  -- and after several are
+  pub set_rises : (of of' : ℕ → K) → ((i : ℕ) → below (of i) (of' i)) → (i : ℕ) (vars : List ℕ) (xs ys : List K)
+      → Pointwise below xs ys → Pointwise below (all_set of i vars xs) (all_set of' i vars ys)
+  set_rises of of' surer i [] xs ys p = p
+  set_rises of of' surer i (x ∷ vars) xs ys p =
+      set_rises of of' surer (suc i) vars (slice_set xs x (of i)) (slice_set ys x (of' i)) (below_set xs ys x (of i) (of' i) p (surer i))
+
+  -- after the globals are
+  back_rises : (shared unit : ℕ) (xs ys : List K) → Pointwise below xs ys
+      → Pointwise below (all_set (known_at rules (back_at rules unit)) 0 (shared_vars shared) xs)
+      (all_set (known_at rules (back_at rules unit)) 0 (shared_vars shared) ys)
+  back_rises shared unit xs ys p =
+      set_rises (known_at rules (back_at rules unit)) (known_at rules (back_at rules unit)) (λ i. order.reflexive _) 0 (shared_vars shared) xs ys p
 
   -- after a call
-  called_rises : (shared : ℕ) (into : Option ℕ) (xs ys : List K) → Pointwise below xs ys
-      → Pointwise below (after_call rules shared into xs) (after_call rules shared into ys)
-  called_rises shared None xs ys p = set_rises (shared_vars shared) xs ys p
-  called_rises shared (Some x) xs ys p =
-      below_set (all_set rules.top (shared_vars shared) xs) (all_set rules.top (shared_vars shared) ys) x rules.top
-      rules.top (set_rises (shared_vars shared) xs ys p) (order.reflexive rules.top)
+  called_rises : (shared : ℕ) (into : Option ℕ) (unit : ℕ) (xs ys : List K) → Pointwise below xs ys
+      → Pointwise below (after_call rules shared into unit xs) (after_call rules shared into unit ys)
+  called_rises shared None unit xs ys p = back_rises shared unit xs ys p
+  called_rises shared (Some x) unit xs ys p =
+      below_set _ _ x (known_at rules (back_at rules unit) shared) (known_at rules (back_at rules unit) shared)
+      (back_rises shared unit xs ys p) (order.reflexive _)
 
   -- what is known after a node rises with what is known before it
   after_rises : (shared : ℕ) (received : List ℕ) (node : Node) (slot : ℕ) (xs ys : List K) → Pointwise below xs ys
       → Pointwise below (known_after rules shared received node slot xs) (known_after rules shared received node slot ys)
   after_rises shared received (Start next) slot xs ys p =
-      subst (λ n. Pointwise below (start_known rules shared received (length xs)) (start_known rules shared received n))
-      (pointwise_length below xs ys p) (pointwise_refl below order.reflexive _)
+      let of : ℕ → K = λ i. known_at rules rules.outside.entry (shared + i) in
+      let rest = set_rises (λ i. rules.zero) (λ i. rules.zero) (λ i. order.reflexive _) shared (range_with_len shared (length xs - shared)) xs ys p in
+      set_rises of of (λ i. order.reflexive _) 0 received _ _
+      (subst (λ n. Pointwise below (all_set (λ i. rules.zero) shared (range_with_len shared (length xs - shared)) xs) (all_set (λ i. rules.zero) shared (range_with_len shared (n - shared)) ys))
+      (pointwise_length below xs ys p) rest)
   after_rises shared received (Skip next) slot xs ys p = p
   after_rises shared received (Assign x rhs next) slot xs ys p =
       below_set xs ys x (rules.of_rhs xs rhs) (rules.of_rhs ys rhs) p (rising.right_side rhs xs ys p)
   after_rises shared received (Print a next) slot xs ys p = p
   after_rises shared received (Guard test number next) slot xs ys p = p
-  after_rises shared received (Call into unit operands next) slot xs ys p = called_rises shared into xs ys p
+  after_rises shared received (Call into unit operands next) slot xs ys p = called_rises shared into unit xs ys p
   after_rises shared received (Test test taken other) slot xs ys p = rising.along test (nat_eq slot 0) xs ys p
   after_rises shared received (Return a) slot xs ys p = p
 
   -- it speaks of equally many variables
   pub length_after : (shared : ℕ) (received : List ℕ) (node : Node) (slot : ℕ) (ks : List K)
       → length (known_after rules shared received node slot ks) ≡ length ks
-  length_after shared received (Start next) slot ks = length_start rules shared received (length ks)
+  length_after shared received (Start next) slot ks = length_start rules shared received ks
   length_after shared received (Skip next) slot ks = refl
   length_after shared received (Assign x rhs next) slot ks = length-set ks x (rules.of_rhs ks rhs)
   length_after shared received (Print a next) slot ks = refl
   length_after shared received (Guard test number next) slot ks = refl
-  length_after shared received (Call into unit operands next) slot ks = length_after_call rules shared into ks
+  length_after shared received (Call into unit operands next) slot ks = length_after_call rules shared into unit ks
   length_after shared received (Test test taken other) slot ks = rising.long test (nat_eq slot 0) ks
   length_after shared received (Return a) slot ks = refl
 
@@ -208,3 +224,8 @@ module _ {K : Type 0} {below : K → K → Type 0} {rules : Rules K} (order : Or
     no_edge = along_no_edge shared received;
     unreached = λ node slot n. refl;
   }
+
+-- whatever is known outside
+pub passing_within : {K : Type 0} {below : K → K → Type 0} {rules : Rules K} (outside : OutsideShape K) → OrderRules below rules
+    → RisingRules below rules → (shared : ℕ) (received : List ℕ) → AlongLaws below (passed_along (within outside rules) shared received)
+passing_within outside order rising = passing_laws (order_within outside order) (rising_within outside rising)

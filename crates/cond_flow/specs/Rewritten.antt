@@ -8,6 +8,7 @@ use Rattle.flow_graph.specs.declared.nodes.Node.{Node}
 use Rattle.flow_graph.specs.declared.nodes.Node.TheVariants.{Assign}
 use Rattle.flow_graph.specs.Dividing.{DividesAt, DividesOf}
 use Rattle.flow_graph.specs.Graphs.{GraphShape, Reached as IsReachedNode}
+use Rattle.flow_graph.specs.Passes.{GraphCalls, GraphCheaper, GraphSame}
 use Rattle.flow_graph.specs.Retained.{IsMade}
 use Rattle.cond_flow.specs.Rules.{Rules}
 use Rattle.cond_flow.specs.States.{NodeState, Knows, is_reached}
@@ -25,6 +26,20 @@ pub record IsRewritten {K : Type 0} (below : K → K → Type 0) (rules : Rules 
   pub kept : (n : ℕ) → n < length graph.nodes
       → IsReachedNode (nodes_become rules states graph.nodes) n
       ↔ (is_reached (states n) ≡ true)
+
+-- the graph of what the nodes become by these states, reached or not
+abbrev pub become_graph : {K : Type 0} → Rules K → (ℕ → NodeState K) → GraphShape → GraphShape
+become_graph rules states graph = record graph { nodes = nodes_become rules states graph.nodes }
+
+-- a graph does the same as that, evaluates no more operators and makes no other calls, nor does that make other calls than
+-- the first
+pub record IsMadeWithin {K : Type 0} (below : K → K → Type 0) (rules : Rules K)
+    (graph made : GraphShape) : Type 0 where
+  pub rewritten : IsRewritten below rules graph made
+  pub same : GraphSame (become_graph rules rewritten.states graph) made
+  pub cheaper : GraphCheaper (become_graph rules rewritten.states graph) made
+  pub middle_calls : GraphCalls graph (become_graph rules rewritten.states graph)
+  pub calls : GraphCalls (become_graph rules rewritten.states graph) made
 
 -- there is no other such graph
 abbrev pub IsOnlyRewritten : {K : Type 0} → (K → K → Type 0) → Rules K → GraphShape → GraphShape

@@ -1,5 +1,5 @@
 -- The rules by which what is known of variables is found out and used, and their laws. Cited by contracts.
-use Rattle.std.specs.Prelude.{◌≡◌, ◌≤◌, ◌<◌, ◌⊎◌, ℕ, ℤ, pos, Bool, true, false, ◌||◌, nat_eq, List, length, slice_index_or, FitsSigned}
+use Rattle.std.specs.Prelude.{◌≡◌, ◌≤◌, ◌<◌, ◌⊎◌, ℕ, ℤ, pos, Bool, true, false, ◌||◌, nat_eq, List, [], length, slice_index_or, FitsSigned}
 use mir.Syntax.{w64}
 use Rattle.fix_solve.specs.Order.{IsLeastUpper}
 use Rattle.fix_solve.specs.Pointwise.{Pointwise}
@@ -17,9 +17,19 @@ use Rattle.mir_base.specs.Numbers.{is_dividing}
 use Rattle.mir_base.specs.Shapes.{AllBelow, operand_vars, rhs_vars}
 use Rattle.mir_base.specs.Units.{operand_value, test_holds}
 
+-- what is known outside of a unit: of each global and then of each argument where the unit is entered; and of each global
+-- and then of the result that each unit hands back. Of what a list does not have nothing is known
+pub record OutsideShape (K : Type 0) : Type 0 where
+  pub entry : List K
+  pub backs : List (List K)
+
+-- nothing
+abbrev pub open_outside : {K : Type 0} → OutsideShape K
+open_outside = record { entry = []; backs = [] }
+
 -- how surely one is known and what may be known at most; what is known of any number, of 0, where two paths meet, of a
--- right side, and along the edge of a test where it has a truth value, if it may have it; and what operands and right
--- sides become
+-- right side, and along the edge of a test where it has a truth value, if it may have it; what operands and right
+-- sides become; and what is known outside
 pub record Rules (K : Type 0) : Type 0 where
   pub rank : K → ℕ
   pub height : ℕ
@@ -33,6 +43,11 @@ pub record Rules (K : Type 0) : Type 0 where
   pub rhs : List K → Rhs → Rhs
   -- the operand may be 0
   pub may_vanish : List K → Operand → Bool
+  pub outside : OutsideShape K
+
+-- the same rules, where this is known outside
+abbrev pub within : {K : Type 0} → OutsideShape K → Rules K → Rules K
+within outside rules = record rules { outside = outside }
 
 -- what is known of a variable
 abbrev pub known_at : {K : Type 0} → Rules K → List K → ℕ → K

@@ -7,7 +7,7 @@ ghost use Rattle.fix_solve.specs.Order.{IsLeastUpper};
 ghost use Rattle.cond_flow.specs.Blockwise.{block_at, last_of, out_of, through_nodes};
 ghost use Rattle.cond_flow.specs.Flows.{IsStateFlow, net_of};
 ghost use Rattle.cond_flow.specs.FlowLaws.{flow_laws};
-ghost use Rattle.cond_flow.specs.Passing.{passed_along};
+ghost use Rattle.cond_flow.specs.Outsides.{along_in};
 ghost use Rattle.cond_flow.specs.Catching.{HasPassed, IsCaught};
 ghost use Rattle.cond_flow.specs.Caught.{caught_in, caught_laws};
 ghost use Rattle.cond_flow.specs.NewsShapes.{IsAllNew};
@@ -19,7 +19,7 @@ use crate::news::{MOST_SMALL, StateNews};
 use crate::reading::{are_apart, take_read};
 use crate::states::BlockState;
 use crate::transfer::{may_pass, step};
-use crate::{Facts, Knowledge};
+use crate::{Facts, Knowledge, Outside};
 use fix_solve::{Flow, News, Steps};
 use flow_graph::{Blocks, Graph};
 use mir_base::Memory;
@@ -29,7 +29,8 @@ use std::sync::ledger::Ledger;
 
 /// States flow from block to block. Block b has two edges, numbered 2b and 2b + 1: those at the slots 0 and 1 of its
 /// last node. `targets` has the block to which each leads; where there is no such slot, nothing passes, and it may be
-/// any. `entry` is the block in which Start stands, and `zeros` has what is known before Start.
+/// any. `entry` is the block in which Start stands, `zeros` has what is known before Start, and `outside` what is known
+/// outside.
 #[derive(Drop)]
 pub(crate) struct StateFlow<'a, K: Knowledge, L: Ledger> {
     pub(crate) graph: &'a Graph,
@@ -37,6 +38,7 @@ pub(crate) struct StateFlow<'a, K: Knowledge, L: Ledger> {
     pub(crate) entry: usize,
     pub(crate) targets: &'a [usize],
     pub(crate) zeros: &'a Facts<K>,
+    pub(crate) outside: &'a Outside<'a, K>,
     pub(crate) ledger: PhantomData<L>,
 }
 
@@ -322,7 +324,7 @@ impl<'a, K: Knowledge, L: Ledger> StateFlow<'a, K, L> {
         let list = self.blocks.nodes(number / 2);
         if may_pass::<K>(self.graph.node(last(list)), number % 2) {
             take_read(self.graph, list, known, room);
-            leave(self.graph, list, number % 2, true, room)
+            leave(self.graph, list, number % 2, true, room, self.outside)
         } else {
             false
         }
@@ -340,7 +342,7 @@ impl<'a, K: Knowledge, L: Ledger> StateFlow<'a, K, L> {
         let list = self.blocks.nodes(number / 2);
         if may_pass::<K>(self.graph.node(last(list)), number % 2) {
             room.refill(known);
-            leave(self.graph, list, number % 2, true, room)
+            leave(self.graph, list, number % 2, true, room, self.outside)
         } else {
             false
         }
@@ -402,14 +404,15 @@ fn leave<K: Knowledge>(
     slot: usize,
     reached: bool,
     known: &mut Facts<K>,
+    outside: &Outside<K>,
 ) -> bool
     requires { IsChain graph.now.nodes list.now }
     ensures { state_where result known.new
-        ≡ out_of (passed_along K.rules graph.now.shared graph.now.received) graph.now.nodes
+        ≡ out_of (along_in K.rules outside.now graph.now) graph.now.nodes
         list.now slot (state_where reached known.old) }
 {
     let last = last(list);
-    let reaches = pass_inner(graph, list, reached, known);
+    let reaches = pass_inner(graph, list, reached, known, outside);
     step(
         reaches,
         known,
@@ -417,6 +420,7 @@ fn leave<K: Knowledge>(
         slot,
         graph.shared(),
         graph.received(),
+        outside,
     )
 }
 
@@ -427,17 +431,26 @@ fn pass_inner<K: Knowledge>(
     list: &[usize],
     reached: bool,
     known: &mut Facts<K>,
+    outside: &Outside<K>,
 ) -> bool
     requires chain { IsChain graph.now.nodes list.now }
     requires some { 0 < length list.now }
     ensures { state_where result known.new
-        ≡ through_nodes (passed_along K.rules graph.now.shared graph.now.received) graph.now.nodes
+        ≡ through_nodes (along_in K.rules outside.now graph.now) graph.now.nodes
         (take (length list.now - 1) list.now) (state_where reached known.old) }
 {
     let mut reaches = reached;
     for i in 1..list.len() {
         let node = graph.node(list[i - 1]);
-        reaches = step(reaches, known, node, 0, graph.shared(), graph.received());
+        reaches = step(
+            reaches,
+            known,
+            node,
+            0,
+            graph.shared(),
+            graph.received(),
+            outside,
+        );
     }
     reaches
 }

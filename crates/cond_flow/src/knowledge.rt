@@ -1,6 +1,6 @@
 // What may be known of a variable, and the rules that go with it.
 ghost use Rattle.std.specs.Prelude.{◌≡◌, ℤ, true};
-ghost use Rattle.cond_flow.specs.Rules.{LawfulRules, Rules};
+ghost use Rattle.cond_flow.specs.Rules.{LawfulRules, Rules, open_outside};
 
 use crate::{Coded, Facts};
 use mir_base::{Operand, Rhs, Test};
@@ -52,4 +52,6 @@ pub trait Knowledge: Coded {
         ensures { result ≡ rules.rhs known.now rhs };
 
     ghost laws: { LawfulRules below holds rules };
+
+    ghost is_open: { rules.outside ≡ open_outside };
 }

@@ -1,9 +1,11 @@
 // The least states of a graph, and what is known before a node.
-ghost use Rattle.std.specs.Prelude.{◌≡◌, ◌<◌, length, IfOk};
+ghost use Rattle.std.specs.Prelude.{◌≡◌, ◌<◌, [], length, IfOk};
 ghost use Rattle.std.specs.Option.{option_map};
-ghost use Rattle.flow_graph.specs.Blocks.{IsChain};
+ghost use Rattle.flow_graph.specs.Blocks.{AreBlocksOf, IsChain};
+ghost use Rattle.cond_flow.specs.Blockwise.{AreLeastOver};
 ghost use Rattle.cond_flow.specs.Holding.{HoldsBefore, StatesHold};
 ghost use Rattle.cond_flow.specs.KnownBefore.{AreKnownBefore, AreStatesOf, IsKnownBefore, IsOnlyKnownBefore, PassesTo};
+ghost use Rattle.cond_flow.specs.Outsides.{rules_in};
 ghost use Rattle.cond_flow.specs.Rewriting.{IsAmong};
 ghost use Rattle.cond_flow.specs.States.{state_where};
 
@@ -11,7 +13,7 @@ use crate::solving::{blocks_of, least};
 use crate::states::BlockState;
 use crate::telling::{tell_blocks, told};
 use crate::transfer::step;
-use crate::{Facts, Knowledge};
+use crate::{Facts, Knowledge, Outside};
 use fix_solve::Work;
 use flow_graph::{Blocks, Graph};
 use mir_base::Memory;
@@ -40,7 +42,8 @@ impl<K: Knowledge> LeastStates<K> {
         ensures { IfOk result (AreStatesOf K.below K.rules graph.now) }
     {
         let blocks = blocks_of(alloc, graph)?;
-        let values = least(alloc, graph, &blocks)?;
+        let nothing = Facts::repeated(alloc, 0, K::top())?;
+        let values = least_in(alloc, graph, &blocks, &nothing)?;
         Ok(LeastStates { blocks, values })
     }
 
@@ -71,7 +74,8 @@ impl<K: Knowledge> LeastStates<K> {
         let list = self.blocks.nodes(block);
         let state = self.values.value(block);
         let mut known = state.known.copied(alloc)?;
-        let reaches = pass_to(graph, list, node, state.reached, &mut known);
+        let nothing = Facts::repeated(alloc, 0, K::top())?;
+        let reaches = pass_in(graph, list, node, state.reached, &mut known, &nothing);
         let told = told(alloc, reaches, &known)?;
         Ok(told)
     }
@@ -83,7 +87,8 @@ impl<K: Knowledge> LeastStates<K> {
         ensures long { IfOk result (λ all. length all.items ≡ length graph.now.nodes) }
         ensures known { IfOk result (λ all. AreKnownBefore K.below K.rules graph.now all.items) }
     {
-        let all = tell_blocks(alloc, graph, &self.blocks, &self.values)?;
+        let nothing = Facts::repeated(alloc, 0, K::top())?;
+        let all = tell_in(alloc, graph, &self.blocks, &self.values, &nothing)?;
         Ok(all)
     }
 }
@@ -96,25 +101,97 @@ pub fn states_hold<K: Knowledge>(graph: &Graph)
     let _ = graph;
 }
 
-/// Turns what is known before the first node of its block into what passes to this node, and answers whether anything
-/// does.
+/// The least states of the blocks where nothing is known outside, with empty facts.
+fn least_in<K: Knowledge>(
+    alloc: Global,
+    graph: &Graph,
+    blocks: &Blocks,
+    nothing: &Facts<K>,
+) -> Result<Work<BlockState<K>>, Memory>
+    requires blocks { AreBlocksOf graph.now.nodes blocks.now }
+    requires nothing { nothing.now ≡ [] }
+    ensures { IfOk result (AreLeastOver K.below K.rules graph.now blocks.now) }
+{
+    let outside = Outside {
+        entry: nothing,
+        backs: &[],
+    };
+    let values = least(alloc, graph, blocks, &outside)?;
+    Ok(values)
+}
+
+/// What is known before each node there.
+fn tell_in<K: Knowledge>(
+    alloc: Global,
+    graph: &Graph,
+    blocks: &Blocks,
+    states: &Work<BlockState<K>>,
+    nothing: &Facts<K>,
+) -> Result<Vec<Option<Vec<K>>>, Memory>
+    requires blocks { AreBlocksOf graph.now.nodes blocks.now }
+    requires states { AreLeastOver K.below K.rules graph.now blocks.now states.now }
+    requires nothing { nothing.now ≡ [] }
+    ensures long { IfOk result (λ all. length all.items ≡ length graph.now.nodes) }
+    ensures known { IfOk result (λ all. AreKnownBefore K.below K.rules graph.now all.items) }
+{
+    let outside = Outside {
+        entry: nothing,
+        backs: &[],
+    };
+    let all = tell_blocks(alloc, graph, blocks, states, &outside)?;
+    Ok(all)
+}
+
+/// Turns what is known before the first node of its block into what passes to this node there, and answers whether
+/// anything does.
+fn pass_in<K: Knowledge>(
+    graph: &Graph,
+    list: &[usize],
+    node: usize,
+    reached: bool,
+    known: &mut Facts<K>,
+    nothing: &Facts<K>,
+) -> bool
+    requires chain { IsChain graph.now.nodes list.now }
+    requires stands { IsAmong list.now (length list.now) node }
+    requires nothing { nothing.now ≡ [] }
+    ensures { PassesTo K.rules graph.now list.now node (state_where reached known.old)
+        (state_where result known.new) }
+{
+    let outside = Outside {
+        entry: nothing,
+        backs: &[],
+    };
+    pass_to(graph, list, node, reached, known, &outside)
+}
+
+/// The same, where this is known outside.
 fn pass_to<K: Knowledge>(
     graph: &Graph,
     list: &[usize],
     node: usize,
     reached: bool,
     known: &mut Facts<K>,
+    outside: &Outside<K>,
 ) -> bool
     requires chain { IsChain graph.now.nodes list.now }
     requires stands { IsAmong list.now (length list.now) node }
-    ensures { PassesTo K.rules graph.now list.now node (state_where reached known.old)
-        (state_where result known.new) }
+    ensures { PassesTo (rules_in outside.now K.rules) graph.now list.now node
+        (state_where reached known.old) (state_where result known.new) }
 {
     let mut reaches = reached;
     let mut place = 0;
     while list[place] != node {
         let here = graph.node(list[place]);
-        reaches = step(reaches, known, here, 0, graph.shared(), graph.received());
+        reaches = step(
+            reaches,
+            known,
+            here,
+            0,
+            graph.shared(),
+            graph.received(),
+            outside,
+        );
         place += 1;
     }
     reaches

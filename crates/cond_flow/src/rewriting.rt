@@ -1,17 +1,19 @@
 // The graph with what is known in the place of what is computed.
-ghost use Rattle.std.specs.Prelude.{◌≡◌, ◌<◌, false, length, map, slice_set, true, IfOk, OnOk};
+ghost use Rattle.std.specs.Prelude.{◌≡◌, ◌<◌, [], false, length, map, slice_set, true, IfOk, OnOk};
 ghost use Rattle.flow_graph.specs.Blocks.{AreBlocksOf, IsChain};
 ghost use Rattle.flow_graph.specs.Passes.{GraphKeeps};
 ghost use Rattle.cond_flow.specs.Becoming.{becomes_at, decided_node, node_becomes, test_becomes};
 ghost use Rattle.cond_flow.specs.Blockwise.{AreLeastOver};
+ghost use Rattle.cond_flow.specs.Outsides.{rules_in};
 ghost use Rattle.cond_flow.specs.Rewriting.{HaveBecome, RewritesIn};
-ghost use Rattle.cond_flow.specs.Rewritten.{IsOnlyRewritten, IsRewritten, KeepsDivisions};
+ghost use Rattle.cond_flow.specs.Rewritten.{IsMadeWithin, IsOnlyRewritten, IsRewritten, KeepsDivisions};
+ghost use Rattle.cond_flow.specs.Rules.{OutsideShape, within};
 ghost use Rattle.cond_flow.specs.States.{state_where};
 
 use crate::solving::{blocks_of, least};
 use crate::states::BlockState;
 use crate::transfer::step;
-use crate::{Facts, Knowledge};
+use crate::{Facts, Knowledge, Outside};
 use fix_solve::Work;
 use flow_graph::{Blocks, Graph, Node};
 use mir_base::{Args, Memory, Operand, Test};
@@ -43,18 +45,64 @@ pub fn rewritten<K: Knowledge>(alloc: Global, graph: &Graph) -> Result<Graph, Me
     ensures divides { IfOk result (KeepsDivisions K.below K.rules graph.now) }
 {
     let _nodes = graph.nodes();
-    let nodes = nodes_become::<K>(alloc, graph)?;
+    let nothing = Facts::repeated(alloc, 0, K::top())?;
+    let nodes = nodes_in(alloc, graph, &nothing)?;
     let made = graph.with_nodes(alloc, nodes)?;
     Ok(made)
 }
 
-/// What the nodes of a graph become by its least states.
-fn nodes_become<K: Knowledge>(alloc: Global, graph: &Graph) -> Result<Vec<Node>, Memory>
+/// What the nodes of a graph become where nothing is known outside, with empty facts.
+fn nodes_in<K: Knowledge>(
+    alloc: Global,
+    graph: &Graph,
+    nothing: &Facts<K>,
+) -> Result<Vec<Node>, Memory>
+    requires { nothing.now ≡ [] }
     ensures { IfOk result (λ made. HaveBecome K.below K.rules graph.now made.items) }
 {
+    let outside = Outside {
+        entry: nothing,
+        backs: &[],
+    };
+    let made = nodes_become(alloc, graph, &outside)?;
+    Ok(made)
+}
+
+/// The same of a graph, where this is known outside: before Start of each global what is known where the unit is
+/// entered, after Start of received variables that of its arguments, and after a call of the globals and the variable
+/// what is known of what the called unit hands back. It fails only with `Memory`.
+pub fn rewritten_within<K: Knowledge>(
+    alloc: Global,
+    graph: &Graph,
+    outside: &Outside<K>,
+) -> Result<Graph, Memory>
+    ensures rewritten { IfOk result
+        (IsRewritten K.below (rules_in outside.now K.rules) graph.now) }
+
+    // there is no other such graph
+    ensures only { IfOk result (IsOnlyRewritten K.below (rules_in outside.now K.rules) graph.now) }
+
+    // it does the same as the nodes that it is made of, reached or not, and those make no other calls than the graph
+    ensures made { IfOk result (IsMadeWithin K.below (rules_in outside.now K.rules) graph.now) }
+{
+    let _nodes = graph.nodes();
+    let nodes = nodes_become(alloc, graph, outside)?;
+    let made = graph.with_nodes(alloc, nodes)?;
+    Ok(made)
+}
+
+/// What the nodes of a graph become by its least states, where this is known outside.
+fn nodes_become<K: Knowledge>(
+    alloc: Global,
+    graph: &Graph,
+    outside: &Outside<K>,
+) -> Result<Vec<Node>, Memory>
+    ensures { IfOk result (λ made.
+        HaveBecome K.below (rules_in outside.now K.rules) graph.now made.items) }
+{
     let blocks = blocks_of(alloc, graph)?;
-    let states = least::<K>(alloc, graph, &blocks)?;
-    let made = rewrite(alloc, graph, &blocks, &states)?;
+    let states = least(alloc, graph, &blocks, outside)?;
+    let made = rewrite(alloc, graph, &blocks, &states, outside)?;
     Ok(made)
 }
 
@@ -64,10 +112,13 @@ fn rewrite<K: Knowledge>(
     graph: &Graph,
     blocks: &Blocks,
     states: &Work<BlockState<K>>,
+    outside: &Outside<K>,
 ) -> Result<Vec<Node>, Memory>
     requires blocks { AreBlocksOf graph.now.nodes blocks.now }
-    requires states { AreLeastOver K.below K.rules graph.now blocks.now states.now }
-    ensures { IfOk result (λ made. HaveBecome K.below K.rules graph.now made.items) }
+    requires states { AreLeastOver K.below (rules_in outside.now K.rules) graph.now blocks.now
+        states.now }
+    ensures { IfOk result (λ made.
+        HaveBecome K.below (rules_in outside.now K.rules) graph.now made.items) }
 {
     let nodes = graph.nodes();
     let mut made = skips(alloc, nodes.len())?;
@@ -78,6 +129,7 @@ fn rewrite<K: Knowledge>(
             graph,
             blocks.nodes(block),
             states.value(block),
+            outside,
             &mut room,
             &mut made,
         )?;
@@ -102,16 +154,17 @@ fn rewrite_block<K: Knowledge>(
     graph: &Graph,
     list: &[usize],
     state: &BlockState<K>,
+    outside: &Outside<K>,
     room: &mut Facts<K>,
     made: &mut Vec<Node>,
 ) -> Result<(), Memory>
     requires chain { IsChain graph.now.nodes list.now }
     requires long { length made.old.items ≡ length graph.now.nodes }
-    ensures { OnOk result (RewritesIn K.rules graph.now list.now state.now (length list.now)
-        made.old.items made.new.items) }
+    ensures { OnOk result (RewritesIn (rules_in outside.now K.rules) graph.now list.now state.now
+        (length list.now) made.old.items made.new.items) }
 {
     put_in(alloc, &state.known, room)?;
-    rewrite_list(alloc, graph, list, state.reached, room, made)?;
+    rewrite_list(alloc, graph, list, state.reached, outside, room, made)?;
     Ok(())
 }
 
@@ -134,12 +187,13 @@ fn rewrite_list<K: Knowledge>(
     graph: &Graph,
     list: &[usize],
     reached: bool,
+    outside: &Outside<K>,
     known: &mut Facts<K>,
     made: &mut Vec<Node>,
 ) -> Result<(), Memory>
     requires chain { IsChain graph.now.nodes list.now }
     requires long { length made.old.items ≡ length graph.now.nodes }
-    ensures { OnOk result (RewritesIn K.rules graph.now list.now
+    ensures { OnOk result (RewritesIn (rules_in outside.now K.rules) graph.now list.now
         (state_where reached known.old) (length list.now) made.old.items made.new.items) }
 {
     let mut reaches = reached;
@@ -147,7 +201,15 @@ fn rewrite_list<K: Knowledge>(
         let n = list[i];
         let node = graph.node(n);
         put(alloc, made, n, reaches, known, node)?;
-        reaches = step(reaches, known, node, 0, graph.shared(), graph.received());
+        reaches = step(
+            reaches,
+            known,
+            node,
+            0,
+            graph.shared(),
+            graph.received(),
+            outside,
+        );
     }
     Ok(())
 }
@@ -162,9 +224,9 @@ fn put<K: Knowledge>(
     node: &Node,
 ) -> Result<(), Memory>
     requires { n < length made.old.items }
-    ensures { OnOk result (made.new.items
+    ensures { OnOk result ((outside : OutsideShape K) → made.new.items
         ≡ slice_set made.old.items n
-        (becomes_at K.rules (state_where reached known.now) node.now)) }
+        (becomes_at (within outside K.rules) (state_where reached known.now) node.now)) }
 {
     let becomes = becomes_at(alloc, reached, known, node)?;
     made[n] = becomes;
@@ -178,8 +240,8 @@ fn becomes_at<K: Knowledge>(
     known: &Facts<K>,
     node: &Node,
 ) -> Result<Node, Memory>
-    ensures { IfOk result (λ becomes.
-        becomes ≡ becomes_at K.rules (state_where reached known.now) node.now) }
+    ensures { IfOk result (λ becomes. (outside : OutsideShape K)
+        → becomes ≡ becomes_at (within outside K.rules) (state_where reached known.now) node.now) }
 {
     if reached {
         let becomes = node_becomes(alloc, known, node)?;
@@ -192,7 +254,8 @@ fn becomes_at<K: Knowledge>(
 
 /// What a node becomes that is reached.
 fn node_becomes<K: Knowledge>(alloc: Global, known: &Facts<K>, node: &Node) -> Result<Node, Memory>
-    ensures { IfOk result (λ becomes. becomes ≡ node_becomes K.rules known.now node.now) }
+    ensures { IfOk result (λ becomes. (outside : OutsideShape K)
+        → becomes ≡ node_becomes (within outside K.rules) known.now node.now) }
 {
     match node {
         Node::Start(next) => Ok(Node::Start(*next)),
@@ -218,7 +281,8 @@ fn node_becomes<K: Knowledge>(alloc: Global, known: &Facts<K>, node: &Node) -> R
 
 /// What a test becomes that is reached.
 fn decided_node<K: Knowledge>(known: &Facts<K>, test: Test, taken: usize, other: usize) -> Node
-    ensures { result ≡ decided_node (test_becomes K.rules known.now test) taken other
+    ensures { (outside : OutsideShape K)
+        → result ≡ decided_node (test_becomes (within outside K.rules) known.now test) taken other
         (K.rules.goes test true known.now) (K.rules.goes test false known.now) }
 {
     if K::goes(known, test, true) {
@@ -236,7 +300,8 @@ fn decided_node<K: Knowledge>(known: &Facts<K>, test: Test, taken: usize, other:
 
 /// The test with its operands replaced.
 fn test_becomes<K: Knowledge>(known: &Facts<K>, test: Test) -> Test
-    ensures { result ≡ test_becomes K.rules known.now test }
+    ensures { (outside : OutsideShape K)
+        → result ≡ test_becomes (within outside K.rules) known.now test }
 {
     match test {
         Test::Rel(op, a, b) => Test::Rel(op, K::operand(known, a), K::operand(known, b)),

@@ -2,12 +2,13 @@
 ghost use Rattle.std.specs.Prelude.{◌≡◌, ◌*◌, ◌<◌, length, IfOk};
 ghost use Rattle.flow_graph.specs.Blocks.{AreBlocksOf};
 ghost use Rattle.cond_flow.specs.Blockwise.{AreLeastOver, AreTargets, IsTargetOf};
+ghost use Rattle.cond_flow.specs.Outsides.{rules_in};
 ghost use Rattle.cond_flow.specs.Passing.{first_known};
 
 use crate::flow::{StateFlow, last};
 use crate::states::BlockState;
-use crate::transfer::forget_globals;
-use crate::{Facts, Knowledge};
+use crate::transfer::enter_globals;
+use crate::{Facts, Knowledge, Outside};
 use fix_solve::{Steps, Work, solve};
 use flow_graph::{Blocks, Edges, Graph};
 use mir_base::Memory;
@@ -24,34 +25,43 @@ pub(crate) fn blocks_of(alloc: Global, graph: &Graph) -> Result<Blocks, Memory>
     Ok(blocks)
 }
 
-/// The least states of the blocks of a graph.
+/// The least states of the blocks of a graph, where this is known outside.
 pub(crate) fn least<K: Knowledge>(
     alloc: Global,
     graph: &Graph,
     blocks: &Blocks,
+    outside: &Outside<K>,
 ) -> Result<Work<BlockState<K>>, Memory>
     requires { AreBlocksOf graph.now.nodes blocks.now }
-    ensures { IfOk result (AreLeastOver K.below K.rules graph.now blocks.now) }
+    ensures { IfOk result
+        (AreLeastOver K.below (rules_in outside.now K.rules) graph.now blocks.now) }
 {
     let targets = targets(alloc, graph, blocks)?;
-    let zeros = zeros::<K>(alloc, graph.shared(), graph.vars().len())?;
+    let zeros = zeros(alloc, graph.shared(), graph.vars().len(), outside)?;
     let work = least_from::<K, Brand>(
         alloc,
         graph,
         blocks,
         targets.as_slice(),
         &zeros,
+        outside,
         Blank::new(1),
     )?;
     Ok(work)
 }
 
 /// What is known before Start of so many variables: that each is 0 that is no global.
-fn zeros<K: Knowledge>(alloc: Global, shared: usize, count: usize) -> Result<Facts<K>, Memory>
-    ensures { IfOk result (λ zeros. zeros ≡ first_known K.rules shared count) }
+fn zeros<K: Knowledge>(
+    alloc: Global,
+    shared: usize,
+    count: usize,
+    outside: &Outside<K>,
+) -> Result<Facts<K>, Memory>
+    ensures { IfOk result (λ zeros.
+        zeros ≡ first_known (rules_in outside.now K.rules) shared count) }
 {
     let mut zeros = Facts::repeated(alloc, count, K::zero())?;
-    forget_globals(&mut zeros, shared);
+    enter_globals(&mut zeros, shared, outside);
     Ok(zeros)
 }
 
@@ -62,6 +72,7 @@ fn least_from<K: Knowledge, L: Ledger>(
     blocks: &Blocks,
     targets: &[usize],
     zeros: &Facts<K>,
+    outside: &Outside<K>,
     blank: Blank,
 ) -> Result<Work<BlockState<K>>, Memory>
     requires name { blank.name ≡ L.name }
@@ -69,8 +80,10 @@ fn least_from<K: Knowledge, L: Ledger>(
     requires some { 0 < blank.parts }
     requires blocks { AreBlocksOf graph.now.nodes blocks.now }
     requires targets { AreTargets graph.now.nodes blocks.now.lists targets.now }
-    requires zeros { zeros.now ≡ first_known K.rules graph.now.shared (length graph.now.vars) }
-    ensures { IfOk result (AreLeastOver K.below K.rules graph.now blocks.now) }
+    requires zeros { zeros.now
+        ≡ first_known (rules_in outside.now K.rules) graph.now.shared (length graph.now.vars) }
+    ensures { IfOk result
+        (AreLeastOver K.below (rules_in outside.now K.rules) graph.now blocks.now) }
 {
     let _nodes = graph.nodes();
     let flow = StateFlow {
@@ -79,6 +92,7 @@ fn least_from<K: Knowledge, L: Ledger>(
         entry: blocks.block_of(0),
         targets,
         zeros,
+        outside,
         ledger: PhantomData,
     };
     let mut steps = Steps::<L>::new(blank);

@@ -3,12 +3,13 @@ ghost use Rattle.std.specs.Prelude.{◌≡◌, ◌<◌, length, IfOk, OnOk};
 ghost use Rattle.flow_graph.specs.Blocks.{AreBlocksOf, IsChain};
 ghost use Rattle.cond_flow.specs.Blockwise.{AreLeastOver};
 ghost use Rattle.cond_flow.specs.KnownBefore.{AreKnownBefore};
+ghost use Rattle.cond_flow.specs.Outsides.{rules_in};
 ghost use Rattle.cond_flow.specs.States.{state_where};
 ghost use Rattle.cond_flow.specs.Telling.{IsTold, IsToldOf, TellsIn};
 
 use crate::states::BlockState;
 use crate::transfer::step;
-use crate::{Facts, Knowledge};
+use crate::{Facts, Knowledge, Outside};
 use fix_solve::Work;
 use flow_graph::{Blocks, Graph};
 use mir_base::Memory;
@@ -21,11 +22,14 @@ pub(crate) fn tell_blocks<K: Knowledge>(
     graph: &Graph,
     blocks: &Blocks,
     states: &Work<BlockState<K>>,
+    outside: &Outside<K>,
 ) -> Result<Vec<Option<Vec<K>>>, Memory>
     requires blocks { AreBlocksOf graph.now.nodes blocks.now }
-    requires states { AreLeastOver K.below K.rules graph.now blocks.now states.now }
+    requires states { AreLeastOver K.below (rules_in outside.now K.rules) graph.now blocks.now
+        states.now }
     ensures long { IfOk result (λ all. length all.items ≡ length graph.now.nodes) }
-    ensures known { IfOk result (λ all. AreKnownBefore K.below K.rules graph.now all.items) }
+    ensures known { IfOk result (λ all.
+        AreKnownBefore K.below (rules_in outside.now K.rules) graph.now all.items) }
 {
     let nodes = graph.nodes();
     let mut all = nothing(alloc, nodes.len())?;
@@ -35,6 +39,7 @@ pub(crate) fn tell_blocks<K: Knowledge>(
             graph,
             blocks.nodes(block),
             states.value(block),
+            outside,
             &mut all,
         )?;
     }
@@ -58,15 +63,24 @@ fn tell_block<K: Knowledge>(
     graph: &Graph,
     list: &[usize],
     state: &BlockState<K>,
+    outside: &Outside<K>,
     all: &mut Vec<Option<Vec<K>>>,
 ) -> Result<(), Memory>
     requires chain { IsChain graph.now.nodes list.now }
     requires long { length all.old.items ≡ length graph.now.nodes }
-    ensures { OnOk result (TellsIn K.rules graph.now list.now state.now (length list.now)
+    ensures { OnOk result (TellsIn (rules_in outside.now K.rules) graph.now list.now state.now (length list.now)
         all.old.items all.new.items) }
 {
     let mut known = state.known.copied(alloc)?;
-    tell_list(alloc, graph, list, state.reached, &mut known, all)?;
+    tell_list(
+        alloc,
+        graph,
+        list,
+        state.reached,
+        &mut known,
+        outside,
+        all,
+    )?;
     Ok(())
 }
 
@@ -78,11 +92,12 @@ fn tell_list<K: Knowledge>(
     list: &[usize],
     reached: bool,
     known: &mut Facts<K>,
+    outside: &Outside<K>,
     all: &mut Vec<Option<Vec<K>>>,
 ) -> Result<(), Memory>
     requires chain { IsChain graph.now.nodes list.now }
     requires long { length all.old.items ≡ length graph.now.nodes }
-    ensures { OnOk result (TellsIn K.rules graph.now list.now (state_where reached known.old)
+    ensures { OnOk result (TellsIn (rules_in outside.now K.rules) graph.now list.now (state_where reached known.old)
         (length list.now) all.old.items all.new.items) }
 {
     let mut reaches = reached;
@@ -90,7 +105,15 @@ fn tell_list<K: Knowledge>(
         let n = list[i];
         put(alloc, all, n, reaches, known)?;
         let node = graph.node(n);
-        reaches = step(reaches, known, node, 0, graph.shared(), graph.received());
+        reaches = step(
+            reaches,
+            known,
+            node,
+            0,
+            graph.shared(),
+            graph.received(),
+            outside,
+        );
     }
     Ok(())
 }

@@ -6,7 +6,7 @@ use Rattle.mir_base.specs.declared.instructions.Rhs.{Rhs}
 use Rattle.mir_base.specs.Expressions.{may_be_zero}
 use Rattle.mir_base.specs.Frames.{Values}
 use Rattle.mir_base.specs.Numbers.{wrapped}
-use Rattle.cond_flow.specs.Rules.{BecomesRhs, LawfulRules, RewritingRules, RisingRules, SoundRules}
+use Rattle.cond_flow.specs.Rules.{BecomesRhs, LawfulRules, RewritingRules, RisingRules, SoundRules, open_outside}
 use Rattle.zero_flow.specs.declared.facts.ZeroFact.{ZeroFact}
 use Rattle.zero_flow.specs.declared.facts.ZeroFact.TheVariants.{Zero, NotZero}
 use Rattle.zero_flow.specs.ZeroFacts.{BelowZeroFact, ZeroFactHolds, allows, is_zero}
@@ -70,3 +70,7 @@ zero_laws = record {
   rewriting = rewriting_rules;
   frame = frame_rules;
 }
+
+-- nothing is known outside
+pub zero_open : zero_rules.outside ≡ open_outside
+zero_open = refl

@@ -1,7 +1,7 @@
 -- The rules by which it is found out which variables are 0. Cited by contracts.
 use Rattle.std.specs.Prelude.{Bool, true, List}
 use Rattle.mir_base.specs.declared.instructions.Operand.{Operand}
-use Rattle.cond_flow.specs.Rules.{Rules}
+use Rattle.cond_flow.specs.Rules.{Rules, open_outside}
 use Rattle.zero_flow.specs.declared.facts.ZeroFact.{ZeroFact}
 use Rattle.zero_flow.specs.declared.facts.ZeroFact.TheVariants.{Zero, Any}
 use Rattle.zero_flow.specs.ZeroFacts.{allows, joined_zero_fact, zero_fact_rank}
@@ -25,4 +25,5 @@ zero_rules = record {
   operand = λ known a. a;
   rhs = λ known rhs. rhs;
   may_vanish = may_be_nought;
+  outside = open_outside;
 }

@@ -2,7 +2,7 @@
 ghost use Rattle.zero_flow.specs.ZeroFacts.{BelowZeroFact, ZeroFactHolds, decoded_zero_fact, no_number, zero_fact_kind};
 ghost use Rattle.zero_flow.specs.ZeroRules.{zero_rules};
 ghost use Rattle.zero_flow.specs.FactLaws.{zero_fact_stands};
-ghost use Rattle.zero_flow.specs.ZeroRuleLaws.{zero_laws};
+ghost use Rattle.zero_flow.specs.ZeroRuleLaws.{zero_laws, zero_open};
 
 use crate::facts::{ZeroFact, are_same, joined_zero_fact};
 use crate::reading::zero_of_rhs;
@@ -89,4 +89,6 @@ impl Knowledge for ZeroFact {
     }
 
     ghost laws = { zero_laws };
+
+    ghost is_open = { zero_open };
 }

@@ -2,6 +2,7 @@ use Rattle.std.proofs.Common.{◌≡◌, ◌+◌, ◌-◌, ◌≤◌, subst, ari
 use Rattle.cond_flow.specs.States.{state_where}
 use Rattle.cond_flow.specs.Passing.{passed_along}
 use Rattle.cond_flow.proofs.Steps.{chain_at, passed_on}
+use Rattle.cond_flow.specs.Outsides.{rules_in}
 use Rattle.cond_flow.proofs.flow.pass_inner.Goals as goal
 
 pub node-node-requires : goal.node-node-requires
@@ -9,7 +10,7 @@ node-node-requires g c = chain_at c.args.graph.now.nodes c.args.list.now (c.loop
 
 pub loop-i-preserved : goal.loop-i-preserved
 loop-i-preserved g c =
-    let r = g.K.Knowledge.rules in
+    let r = rules_in c.args.outside.now g.K.Knowledge.rules in
     let graph = c.args.graph.now in
     let low : 1 ≤ c.loop-i.i = c.loop-i.auto.i in
     let after = state_where c.step-reaches.result c.step-reaches.new.known in

@@ -3,6 +3,7 @@ use Rattle.std.proofs.lemmas.Option.{slice_get-get_or}
 use Rattle.cond_flow.specs.States.{state_where}
 use Rattle.cond_flow.specs.Passing.{passed_along}
 use Rattle.cond_flow.proofs.Steps.{chain_at, passed_on, place_low, place_next}
+use Rattle.cond_flow.specs.Outsides.{rules_in}
 use Rattle.cond_flow.proofs.least_states.pass_to.Goals as goal
 
 pub node-here-requires : goal.node-here-requires
@@ -22,7 +23,7 @@ loop-place-smaller g c =
 
 pub loop-place-preserved : goal.loop-place-preserved
 loop-place-preserved g c =
-    let r = g.K.Knowledge.rules in
+    let r = rules_in c.args.outside.now g.K.Knowledge.rules in
     let graph = c.args.graph.now in
     let list = c.args.list.now in
     let place = c.loop-place.place in

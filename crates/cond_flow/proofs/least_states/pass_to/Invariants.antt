@@ -2,11 +2,12 @@ use Rattle.std.proofs.Common.{◌≡◌, ◌-◌, ◌≤◌, ℕ, length, take, 
 use Rattle.cond_flow.specs.States.{state_where}
 use Rattle.cond_flow.specs.Passing.{passed_along}
 use Rattle.cond_flow.specs.Blockwise.{through_nodes}
+use Rattle.cond_flow.specs.Outsides.{rules_in}
 use Rattle.cond_flow.proofs.least_states.pass_to.Given as goal
 
 abbrev pub invariant-loop-place : goal.invariant-loop-place
 invariant-loop-place g l = record {
-  passes : state_where l.reaches l.known ≡ through_nodes (passed_along g.K.Knowledge.rules l.graph.shared l.graph.received) l.graph.nodes (take l.place l.list) (state_where l.reached l.fn.known);
+  passes : state_where l.reaches l.known ≡ through_nodes (passed_along (rules_in l.outside g.K.Knowledge.rules) l.graph.shared l.graph.received) l.graph.nodes (take l.place l.list) (state_where l.reached l.fn.known);
   ahead : (i : ℕ) × (l.place ≤ i) × (slice_get l.list i ≡ Some l.node);
 }
 

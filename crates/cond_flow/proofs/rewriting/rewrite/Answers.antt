@@ -5,11 +5,13 @@ use Rattle.cond_flow.specs.States.{Unreached}
 use Rattle.cond_flow.specs.Passing.{passed_along}
 use Rattle.cond_flow.specs.Rewriting.{RewritesBlocks}
 use Rattle.cond_flow.proofs.Rewrites.{blocks_all, blocks_more}
+use Rattle.cond_flow.specs.Outsides.{outside_of, rules_in}
+use Rattle.cond_flow.specs.WithinLaws.{laws_within}
 use Rattle.cond_flow.proofs.rewriting.rewrite.Goals as goal
 
 pub loop-block-preserved : goal.loop-block-preserved
 loop-block-preserved g c =
-    let r = g.K.Knowledge.rules in
+    let r = rules_in c.args.outside.now g.K.Knowledge.rules in
     let graph = c.args.graph.now in
     let lt : c.loop-block.block < length c.args.states.now = omega (arith, c.loop-block-test.true, c.len-block-end.ensures, c.requires.states.long) in
     blocks_more r (passed_along r graph.shared graph.received) graph.nodes c.args.blocks.now.lists c.args.states.now c.loop-block.block c.nodes.result.now c.value.result.now c.loop-block.made.items c.rewrite_block.new.made.items
@@ -17,8 +19,8 @@ loop-block-preserved g c =
 
 pub returns : goal.returns
 returns g c =
-    let r = g.K.Knowledge.rules in
-    let laws = g.met.K.Knowledge.laws in
+    let r = rules_in c.args.outside.now g.K.Knowledge.rules in
+    let laws = laws_within (outside_of c.args.outside.now) g.met.K.Knowledge.laws in
     let graph = c.args.graph.now in
     let end : c.loop-block.block ≡ length c.args.blocks.now.lists = omega (arith, c.loop-block-test.false, c.loop-block.auto.block-end, c.len-block-end.ensures) in
     let all = subst (λ k. RewritesBlocks r (passed_along r graph.shared graph.received) graph.nodes c.args.blocks.now.lists c.args.states.now k c.loop-block.made.items) end c.loop-block.invariant in

@@ -5,6 +5,7 @@ use Rattle.cond_flow.specs.Passing.{passed_along}
 use Rattle.cond_flow.specs.Rewriting.{RewritesIn}
 use Rattle.cond_flow.proofs.Rewrites.{rewrites_more}
 use Rattle.cond_flow.proofs.Steps.{chain_at, passed_on}
+use Rattle.cond_flow.specs.Outsides.{outside_of, rules_in}
 use Rattle.cond_flow.proofs.rewriting.rewrite_list.Goals as goal
 
 pub node-node-requires : goal.node-node-requires
@@ -17,7 +18,7 @@ put-requires g c =
 
 pub loop-i-preserved : goal.loop-i-preserved
 loop-i-preserved g c =
-    let r = g.K.Knowledge.rules in
+    let r = rules_in c.args.outside.now g.K.Knowledge.rules in
     let graph = c.args.graph.now in
     let along = passed_along r graph.shared graph.received in
     let list = c.args.list.now in
@@ -31,10 +32,10 @@ loop-i-preserved g c =
           (subst (λ l. after ≡ passed_along r graph.shared l c.node-node.result.now 0 before) c.received.ensures
           (subst (λ n. after ≡ passed_along r n c.received.result.now c.node-node.result.now 0 before) c.shared.ensures.value c.step-reaches.ensures));
       become = rewrites_more r along graph.nodes list first c.args.made.now.items c.loop-i.i _ c.node-node.result.now before c.loop-i.made.items c.put.new.made.items c.loop-i.invariant.become
-          (slice_get-get_or list c.loop-i.i 0 lt) c.node-node.ensures c.loop-i.invariant.passes (omega (arith, low, c.loop-i.invariant.become.long, c.requires.long)) c.in_ok-put.ensures;
+          (slice_get-get_or list c.loop-i.i 0 lt) c.node-node.ensures c.loop-i.invariant.passes (omega (arith, low, c.loop-i.invariant.become.long, c.requires.long)) (c.in_ok-put.ensures (outside_of c.args.outside.now));
     }
 
 pub returns : goal.returns
 returns g c =
     let end : c.loop-i.i ≡ length c.args.list.now = omega (arith, c.loop-i-test.false, c.loop-i.auto.i-end) in
-    subst (λ k. RewritesIn g.K.Knowledge.rules c.args.graph.now c.args.list.now (state_where c.args.reached c.args.known.now) k c.args.made.now.items c.loop-i.made.items) end c.loop-i.invariant.become
+    subst (λ k. RewritesIn (rules_in c.args.outside.now g.K.Knowledge.rules) c.args.graph.now c.args.list.now (state_where c.args.reached c.args.known.now) k c.args.made.now.items c.loop-i.made.items) end c.loop-i.invariant.become

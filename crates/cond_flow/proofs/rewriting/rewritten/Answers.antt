@@ -7,7 +7,7 @@ use Rattle.flow_graph.specs.Machines.{graph_machine, machine_of}
 use Rattle.flow_graph.specs.Retained.{IsMade}
 use Rattle.cond_flow.specs.BecomingLaws.{rewritten_is_one}
 use Rattle.cond_flow.specs.Rewritten.{IsRewritten}
-use Rattle.cond_flow.proofs.Runs.{rewritten_same, rewritten_cheaper}
+use Rattle.cond_flow.specs.StepLaws.{rewritten_same, rewritten_cheaper}
 use Rattle.cond_flow.proofs.Shapes.{become_can_make, become_calls}
 use Rattle.cond_flow.proofs.Whole.{exactly_kept, keeps_divisions}
 use Rattle.cond_flow.proofs.rewriting.rewritten.Goals as goal
@@ -43,8 +43,8 @@ returns-clause-keeps g c =
     let laws = g.met.K.Knowledge.laws in
     let graph = c.args.graph.now in
     let are = c.in_ok-nodes.ensures in
-    let same = subst (λ l. UnitSame (machine_of graph) (graph_machine graph.shared graph.received l)) (sym are.are) (rewritten_same laws graph.shared graph.received graph.nodes _ are.states are.least.are) in
-    let cheaper = subst (λ l. UnitCheaper (machine_of graph) (graph_machine graph.shared graph.received l)) (sym are.are) (rewritten_cheaper laws graph.shared graph.received graph.nodes _ are.states are.least.are) in
+    let same = subst (λ l. UnitSame (machine_of graph) (graph_machine graph.shared graph.received l)) (sym are.are) (rewritten_same laws graph.shared graph.received graph.nodes _ are.states are.least.are g.met.K.Knowledge.is_open) in
+    let cheaper = subst (λ l. UnitCheaper (machine_of graph) (graph_machine graph.shared graph.received l)) (sym are.are) (rewritten_cheaper laws graph.shared graph.received graph.nodes _ are.states are.least.are g.met.K.Knowledge.is_open) in
     made_keeps graph c.in_ok-made.made c.in_ok-nodes.nodes.items c.in_ok-made.ensures.made.name_is (same_globals graph c.in_ok-made.made c.in_ok-made.ensures.made.shared_is c.in_ok-made.ensures.made.vars_are) same cheaper
     (λ called count calls. become_calls laws.rewriting are.states graph.nodes called count (subst (λ l. NodesCall l called count) are.are calls))
     c.in_ok-made.ensures.same c.in_ok-made.ensures.cheaper c.in_ok-made.ensures.calls

@@ -5,6 +5,7 @@ use Rattle.cond_flow.specs.Passing.{passed_along}
 use Rattle.cond_flow.specs.Telling.{TellsIn}
 use Rattle.cond_flow.proofs.Rewrites.{tells_more}
 use Rattle.cond_flow.proofs.Steps.{chain_at, passed_on}
+use Rattle.cond_flow.specs.Outsides.{rules_in}
 use Rattle.cond_flow.proofs.telling.tell_list.Goals as goal
 
 pub node-node-requires : goal.node-node-requires
@@ -17,7 +18,7 @@ put-requires g c =
 
 pub loop-i-preserved : goal.loop-i-preserved
 loop-i-preserved g c =
-    let r = g.K.Knowledge.rules in
+    let r = rules_in c.args.outside.now g.K.Knowledge.rules in
     let graph = c.args.graph.now in
     let along = passed_along r graph.shared graph.received in
     let list = c.args.list.now in
@@ -37,4 +38,4 @@ loop-i-preserved g c =
 pub returns : goal.returns
 returns g c =
     let end : c.loop-i.i ≡ length c.args.list.now = omega (arith, c.loop-i-test.false, c.loop-i.auto.i-end) in
-    subst (λ k. TellsIn g.K.Knowledge.rules c.args.graph.now c.args.list.now (state_where c.args.reached c.args.known.now) k c.args.all.now.items c.loop-i.all.items) end c.loop-i.invariant.tells
+    subst (λ k. TellsIn (rules_in c.args.outside.now g.K.Knowledge.rules) c.args.graph.now c.args.list.now (state_where c.args.reached c.args.known.now) k c.args.all.now.items c.loop-i.all.items) end c.loop-i.invariant.tells

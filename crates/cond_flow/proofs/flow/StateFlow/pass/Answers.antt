@@ -4,9 +4,10 @@ use Rattle.flow_graph.specs.BlockLaws.{chain_some}
 use Rattle.cond_flow.specs.States.{Knows, Unreached}
 use Rattle.cond_flow.specs.Blockwise.{out_of}
 use Rattle.cond_flow.specs.Passing.{passed_along}
-use Rattle.cond_flow.specs.PassingLaws.{passing_laws}
+use Rattle.cond_flow.specs.PassingLaws.{passing_within}
 use Rattle.cond_flow.proofs.JoinCases.{out_none}
 use Rattle.cond_flow.proofs.Steps.{chain_at}
+use Rattle.cond_flow.specs.Outsides.{outside_of, rules_in}
 use Rattle.cond_flow.proofs.flow.StateFlow.pass.Goals as goal
 
 pub last-requires : goal.last-requires
@@ -24,7 +25,7 @@ pub returns-then-may_pass : goal.returns-then-may_pass
 returns-then-may_pass g c =
     let f = c.args.self.now in
     let graph = f.graph.now in
-    let along = passed_along g.K.Knowledge.rules graph.shared graph.received in
+    let along = passed_along (rules_in c.args.self.now.outside.now g.K.Knowledge.rules) graph.shared graph.received in
     let list = c.nodes-list.result.now in
     let slot = c.args.number % 2 in
     c.leave.ensures
@@ -35,10 +36,10 @@ pub returns-else-may_pass : goal.returns-else-may_pass
 returns-else-may_pass g c =
     let f = c.args.self.now in
     let graph = f.graph.now in
-    let along = passed_along g.K.Knowledge.rules graph.shared graph.received in
-    let laws = passing_laws g.met.K.Knowledge.laws.order g.met.K.Knowledge.laws.rising graph.shared graph.received in
+    let along = passed_along (rules_in c.args.self.now.outside.now g.K.Knowledge.rules) graph.shared graph.received in
+    let laws = passing_within (outside_of c.args.self.now.outside.now) g.met.K.Knowledge.laws.order g.met.K.Knowledge.laws.rising graph.shared graph.received in
     let list = c.nodes-list.result.now in
     let slot = c.args.number % 2 in
     ap Unreached (sym c.requires.fits)
-    ∙ out_none g.K.Knowledge.rules graph.shared graph.received laws graph.nodes list slot (Knows c.args.known.now) c.node.result.now (subst (λ n. slice_get graph.nodes n ≡ Some c.node.result.now) c.last.ensures c.node.ensures) (c.may_pass.ensures c.if-may_pass.false)
+    ∙ out_none (rules_in c.args.self.now.outside.now g.K.Knowledge.rules) graph.shared graph.received laws graph.nodes list slot (Knows c.args.known.now) c.node.result.now (subst (λ n. slice_get graph.nodes n ≡ Some c.node.result.now) c.last.ensures c.node.ensures) (c.may_pass.ensures c.if-may_pass.false (outside_of c.args.self.now.outside.now))
     ∙ ap (λ l. out_of along graph.nodes l slot (Knows c.args.known.now)) (sym (get_or_from_slice_get f.blocks.now.lists (c.args.number / 2) list [] c.nodes-list.ensures))

@@ -3,11 +3,12 @@ use Rattle.std.proofs.lemmas.Option.{get_or_from_slice_get}
 use Rattle.flow_graph.specs.BlockLaws.{chain_some}
 use Rattle.cond_flow.specs.Blockwise.{out_of}
 use Rattle.cond_flow.specs.Passing.{passed_along}
-use Rattle.cond_flow.specs.PassingLaws.{passing_laws}
+use Rattle.cond_flow.specs.PassingLaws.{passing_within}
 use Rattle.cond_flow.specs.States.{Knows, is_reached, state_where}
 use Rattle.cond_flow.proofs.JoinCases.{leaves_long, out_none}
 use Rattle.cond_flow.proofs.PushLaws.{passes_by_read}
 use Rattle.cond_flow.proofs.Steps.{chain_at}
+use Rattle.cond_flow.specs.Outsides.{outside_of, rules_in}
 use Rattle.cond_flow.proofs.flow.StateFlow.passes_still.Goals as goal
 
 pub last-requires : goal.last-requires
@@ -25,7 +26,7 @@ pub returns-then-may_pass-clause-long : goal.returns-then-may_pass-clause-long
 returns-then-may_pass-clause-long g c =
     let laws = g.met.K.Knowledge.laws in
     let graph = c.args.self.now.graph.now in
-    leaves_long laws.order (passing_laws laws.order laws.rising graph.shared graph.received) graph.nodes c.nodes-list.result.now (c.args.number % 2) c.leave.result c.leave.new.known (Knows c.take_read.new.into) c.leave.ensures
+    leaves_long laws.order (passing_within (outside_of c.args.self.now.outside.now) laws.order laws.rising graph.shared graph.received) graph.nodes c.nodes-list.result.now (c.args.number % 2) c.leave.result c.leave.new.known (Knows c.take_read.new.into) c.leave.ensures
     ∙ c.take_read.ensures.long
 
 pub returns-then-may_pass-clause-passes : goal.returns-then-may_pass-clause-passes
@@ -33,21 +34,21 @@ returns-then-may_pass-clause-passes g c =
     let laws = g.met.K.Knowledge.laws in
     let f = c.args.self.now in
     let graph = f.graph.now in
-    let along = passed_along g.K.Knowledge.rules graph.shared graph.received in
+    let along = passed_along (rules_in c.args.self.now.outside.now g.K.Knowledge.rules) graph.shared graph.received in
     let list = c.nodes-list.result.now in
     let slot = c.args.number % 2 in
     let some = chain_some graph.nodes list (c.requires.valid.blocks.are.blocks (c.args.number / 2) list c.nodes-list.ensures).chain in
-    passes_by_read laws.frame laws.order laws.rising graph.shared graph.received graph.nodes list slot some c.args.known.now c.take_read.new.into (c.requires.fits ∙ sym c.take_read.ensures.long) c.take_read.ensures.alike c.leave.result c.leave.new.known c.leave.ensures
+    passes_by_read laws.frame laws.order laws.rising (outside_of c.args.self.now.outside.now) graph.shared graph.received graph.nodes list slot some c.args.known.now c.take_read.new.into (c.requires.fits ∙ sym c.take_read.ensures.long) c.take_read.ensures.alike c.leave.result c.leave.new.known c.leave.ensures
     ∙ ap (λ l. is_reached (out_of along graph.nodes l slot (Knows c.args.known.now))) (sym (get_or_from_slice_get f.blocks.now.lists (c.args.number / 2) list [] c.nodes-list.ensures))
 
 pub returns-else-may_pass-clause-passes : goal.returns-else-may_pass-clause-passes
 returns-else-may_pass-clause-passes g c =
     let f = c.args.self.now in
     let graph = f.graph.now in
-    let along = passed_along g.K.Knowledge.rules graph.shared graph.received in
-    let laws = passing_laws g.met.K.Knowledge.laws.order g.met.K.Knowledge.laws.rising graph.shared graph.received in
+    let along = passed_along (rules_in c.args.self.now.outside.now g.K.Knowledge.rules) graph.shared graph.received in
+    let laws = passing_within (outside_of c.args.self.now.outside.now) g.met.K.Knowledge.laws.order g.met.K.Knowledge.laws.rising graph.shared graph.received in
     let list = c.nodes-list.result.now in
     let slot = c.args.number % 2 in
     ap is_reached
-    (out_none g.K.Knowledge.rules graph.shared graph.received laws graph.nodes list slot (Knows c.args.known.now) c.node.result.now (subst (λ n. slice_get graph.nodes n ≡ Some c.node.result.now) c.last.ensures c.node.ensures) (c.may_pass.ensures c.if-may_pass.false)
+    (out_none (rules_in c.args.self.now.outside.now g.K.Knowledge.rules) graph.shared graph.received laws graph.nodes list slot (Knows c.args.known.now) c.node.result.now (subst (λ n. slice_get graph.nodes n ≡ Some c.node.result.now) c.last.ensures c.node.ensures) (c.may_pass.ensures c.if-may_pass.false (outside_of c.args.self.now.outside.now))
     ∙ ap (λ l. out_of along graph.nodes l slot (Knows c.args.known.now)) (sym (get_or_from_slice_get f.blocks.now.lists (c.args.number / 2) list [] c.nodes-list.ensures)))

@@ -1,8 +1,9 @@
 use Rattle.std.proofs.Common.{◌≡◌, ◌↔◌, ◌/◌, ◌%◌, false, sym, ◌∙◌, subst}
 use Rattle.cond_flow.specs.States.{Knows, state_where}
 use Rattle.cond_flow.specs.Blockwise.{block_at}
-use Rattle.cond_flow.specs.PassingLaws.{passing_laws}
+use Rattle.cond_flow.specs.PassingLaws.{passing_within}
 use Rattle.cond_flow.proofs.JoinCases.{first_same, kept_long, leaves_long, passes_first, passes_on, upper_of, where_long}
+use Rattle.cond_flow.specs.Outsides.{outside_of}
 use Rattle.cond_flow.proofs.flow.StateFlow.push_known.Goals as goal
 
 pub join_where-requires : goal.join_where-requires
@@ -11,7 +12,7 @@ join_where-requires g c =
     let f = c.args.self.now in
     let graph = f.graph.now in
     let i = c.into.inside in
-    let left = leaves_long laws.order (passing_laws laws.order laws.rising graph.shared graph.received) graph.nodes (block_at f.blocks.now.lists (c.args.number / 2)) (c.args.number % 2) c.pass-passes.result c.pass-passes.new.room (Knows c.args.known.now) c.pass-passes.ensures in
+    let left = leaves_long laws.order (passing_within (outside_of c.args.self.now.outside.now) laws.order laws.rising graph.shared graph.received) graph.nodes (block_at f.blocks.now.lists (c.args.number / 2)) (c.args.number % 2) c.pass-passes.result c.pass-passes.new.room (Knows c.args.known.now) c.pass-passes.ensures in
     left ∙ c.requires.long ∙ sym (kept_long i.reached i.known c.args.into.now c.into.view_is)
 
 pub invariant_of-into : goal.invariant_of-into
@@ -21,7 +22,7 @@ invariant_of-into g c =
     let f = c.args.self.now in
     let graph = f.graph.now in
     let i = c.into.inside in
-    let left = leaves_long laws.order (passing_laws laws.order laws.rising graph.shared graph.received) graph.nodes (block_at f.blocks.now.lists (c.args.number / 2)) (c.args.number % 2) c.pass-passes.result c.pass-passes.new.room (Knows c.args.known.now) c.pass-passes.ensures in
+    let left = leaves_long laws.order (passing_within (outside_of c.args.self.now.outside.now) laws.order laws.rising graph.shared graph.received) graph.nodes (block_at f.blocks.now.lists (c.args.number / 2)) (c.args.number % 2) c.pass-passes.result c.pass-passes.new.room (Knows c.args.known.now) c.pass-passes.ensures in
     let same = left ∙ c.requires.long ∙ sym (kept_long i.reached i.known c.args.into.now c.into.view_is) in
     same ∙ sym (where_long r.joined r.top c.pass-passes.result i.known c.pass-passes.new.room c.join_where.new.known c.join_where.ensures.joined (sym same))
 
@@ -33,7 +34,7 @@ returns-then-into-clause-joined g c =
     let graph = f.graph.now in
     let i = c.into.inside in
     let passed = c.pass-passes.new.room in
-    let left = leaves_long laws.order (passing_laws laws.order laws.rising graph.shared graph.received) graph.nodes (block_at f.blocks.now.lists (c.args.number / 2)) (c.args.number % 2) c.pass-passes.result passed (Knows c.args.known.now) c.pass-passes.ensures in
+    let left = leaves_long laws.order (passing_within (outside_of c.args.self.now.outside.now) laws.order laws.rising graph.shared graph.received) graph.nodes (block_at f.blocks.now.lists (c.args.number / 2)) (c.args.number % 2) c.pass-passes.result passed (Knows c.args.known.now) c.pass-passes.ensures in
     let same = left ∙ c.requires.long ∙ sym (kept_long i.reached i.known c.args.into.now c.into.view_is) in
     upper_of laws.order (state_where i.reached i.known) c.args.into.now (state_where c.pass-passes.result passed) _ _ c.into.view_is c.pass-passes.ensures
     (passes_on laws.order i.reached i.known c.pass-passes.result passed c.join_where.new.known c.if-into.true (sym same)
@@ -45,7 +46,7 @@ invariant_of-into-else-into g c =
     let f = c.args.self.now in
     let graph = f.graph.now in
     let i = c.into.inside in
-    let left = leaves_long laws.order (passing_laws laws.order laws.rising graph.shared graph.received) graph.nodes (block_at f.blocks.now.lists (c.args.number / 2)) (c.args.number % 2) c.pass-passes-else-into.result c.pass-passes-else-into.new.room (Knows c.args.known.now) c.pass-passes-else-into.ensures in
+    let left = leaves_long laws.order (passing_within (outside_of c.args.self.now.outside.now) laws.order laws.rising graph.shared graph.received) graph.nodes (block_at f.blocks.now.lists (c.args.number / 2)) (c.args.number % 2) c.pass-passes-else-into.result c.pass-passes-else-into.new.room (Knows c.args.known.now) c.pass-passes-else-into.ensures in
     let same = left ∙ c.requires.long ∙ sym (kept_long i.reached i.known c.args.into.now c.into.view_is) in
     c.into.invariant ∙ sym same
 
@@ -56,7 +57,7 @@ returns-else-into-clause-joined g c =
     let graph = f.graph.now in
     let i = c.into.inside in
     let passed = c.pass-passes-else-into.new.room in
-    let left = leaves_long laws.order (passing_laws laws.order laws.rising graph.shared graph.received) graph.nodes (block_at f.blocks.now.lists (c.args.number / 2)) (c.args.number % 2) c.pass-passes-else-into.result passed (Knows c.args.known.now) c.pass-passes-else-into.ensures in
+    let left = leaves_long laws.order (passing_within (outside_of c.args.self.now.outside.now) laws.order laws.rising graph.shared graph.received) graph.nodes (block_at f.blocks.now.lists (c.args.number / 2)) (c.args.number % 2) c.pass-passes-else-into.result passed (Knows c.args.known.now) c.pass-passes-else-into.ensures in
     let same = left ∙ c.requires.long ∙ sym (kept_long i.reached i.known c.args.into.now c.into.view_is) in
     upper_of laws.order (state_where i.reached i.known) c.args.into.now (state_where c.pass-passes-else-into.result passed) _ _ c.into.view_is c.pass-passes-else-into.ensures
     (passes_first laws.order i.reached i.known c.pass-passes-else-into.result passed c.if-into.false (sym same))
@@ -69,6 +70,6 @@ returns-else-into-clause-unchanged g c =
     let i = c.into.inside in
     let r = c.pass-passes-else-into.result in
     let passed = c.pass-passes-else-into.new.room in
-    let left = leaves_long laws.order (passing_laws laws.order laws.rising graph.shared graph.received) graph.nodes (block_at f.blocks.now.lists (c.args.number / 2)) (c.args.number % 2) r passed (Knows c.args.known.now) c.pass-passes-else-into.ensures in
+    let left = leaves_long laws.order (passing_within (outside_of c.args.self.now.outside.now) laws.order laws.rising graph.shared graph.received) graph.nodes (block_at f.blocks.now.lists (c.args.number / 2)) (c.args.number % 2) r passed (Knows c.args.known.now) c.pass-passes-else-into.ensures in
     let same = left ∙ c.requires.long ∙ sym (kept_long i.reached i.known c.args.into.now c.into.view_is) in
     subst (λ s. (r ≡ false) ↔ (state_where r passed ≡ s)) c.into.view_is (first_same i.reached i.known passed r c.if-into.false same)

@@ -1,7 +1,8 @@
 use Rattle.std.proofs.Common.{◌/◌, ◌%◌, sym, ◌∙◌}
 use Rattle.cond_flow.specs.Blockwise.{block_at}
-use Rattle.cond_flow.specs.PassingLaws.{passing_laws}
+use Rattle.cond_flow.specs.PassingLaws.{passing_within}
 use Rattle.cond_flow.proofs.JoinCases.{pushes_none}
+use Rattle.cond_flow.specs.Outsides.{outside_of}
 use Rattle.cond_flow.proofs.flow.StateFlowFlow.push.Goals as goal
 
 pub returns-else-from-clause-joined : goal.returns-else-from-clause-joined
@@ -10,5 +11,5 @@ returns-else-from-clause-joined g c =
     let f = c.args.self.now in
     let graph = f.graph.now in
     let s = c.from.inside in
-    pushes_none laws.order (passing_laws laws.order laws.rising graph.shared graph.received) graph.nodes (block_at f.blocks.now.lists (c.args.number / 2)) (c.args.number % 2) c.args.into.now s.reached s.known c.args.from.now c.if-from.false c.from.view_is
+    pushes_none laws.order (passing_within (outside_of c.args.self.now.outside.now) laws.order laws.rising graph.shared graph.received) graph.nodes (block_at f.blocks.now.lists (c.args.number / 2)) (c.args.number % 2) c.args.into.now s.reached s.known c.args.from.now c.if-from.false c.from.view_is
     (c.requires.into_size ∙ sym c.requires.from_size)

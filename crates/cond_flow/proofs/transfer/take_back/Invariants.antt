@@ -1,0 +1,12 @@
+use Rattle.std.proofs.Common.{◌≡◌, ◌-◌}
+use Rattle.std.specs.List.{range_with_len}
+use Rattle.mir_base.specs.Frames.{shared_vars}
+use Rattle.cond_flow.specs.Outsides.{rules_in}
+use Rattle.cond_flow.specs.Passing.{all_set, back_at}
+use Rattle.cond_flow.specs.Rules.{known_at}
+use Rattle.cond_flow.proofs.transfer.take_back.Given as goal
+
+abbrev pub invariant-loop-x : goal.invariant-loop-x
+invariant-loop-x g l =
+    all_set (known_at g.K.Knowledge.rules (back_at (rules_in l.outside g.K.Knowledge.rules) l.unit)) l.x (range_with_len l.x (l.shared - l.x)) l.known
+    ≡ all_set (known_at g.K.Knowledge.rules (back_at (rules_in l.outside g.K.Knowledge.rules) l.unit)) 0 (shared_vars l.shared) l.fn.known
