@@ -16,21 +16,17 @@ use std::alloc::Global;
 pub(crate) struct Ends {
     words: Vec<u64>,
     visits: usize,
-    from_low: bool,
 }
 
-/// So many visits for each node are made in the order of the list, before its ends are taken in turn.
+/// So many visits for each node are made in the order of the list. Then as many visits as there are nodes take the
+/// highest node, as many the first of the list, as many the lowest, and so on.
 const PATIENCE: usize = 4;
 
 impl Ends {
     /// For so many nodes. It fails only with `Memory`.
     pub(crate) fn new(alloc: Global, nodes: usize) -> Result<Ends, Memory> {
         let words = vec![in alloc; 0; nodes / 64 + 1]?;
-        Ok(Ends {
-            words,
-            visits: 0,
-            from_low: false,
-        })
+        Ok(Ends { words, visits: 0 })
     }
 
     /// Begins anew, with no visit made. It does not allocate.
@@ -43,30 +39,30 @@ impl Ends {
         self.visits >= nodes.saturating_mul(PATIENCE)
     }
 
-    /// Notes that a node was visited: counts the visit, and where the order of the list has been left, marks the targets
-    /// that wait. It does not allocate.
+    /// Notes that a node was visited. Where the order of the list has been left, it and the targets of its edges are
+    /// marked if they wait, and where it is left by this visit, all nodes are. It does not allocate.
     pub(crate) fn note<F: Flow>(&mut self, waiting: &Links, flow: &F, node: usize, nodes: usize)
         requires valid { F.valid flow.now }
         requires in_range { node < (F.net flow.now).nodes }
         requires nodes { waiting.now.nodes ≡ nodes }
         requires all { nodes ≡ (F.net flow.now).nodes }
     {
-        if self.are_taken(nodes) {
+        let were_taken = self.are_taken(nodes);
+        self.visits = self.visits.saturating_add(1);
+        if were_taken {
+            self.mark(waiting, node);
             self.mark_targets(waiting, flow, node);
-        } else {
-            self.count(waiting, nodes);
+        } else if self.are_taken(nodes) {
+            self.mark_all(waiting, nodes);
         }
     }
 
-    /// Counts a visit. With that by which the order of the list is left, the nodes that wait are marked.
-    fn count(&mut self, waiting: &Links, nodes: usize)
+    /// Marks the nodes that wait.
+    fn mark_all(&mut self, waiting: &Links, nodes: usize)
         requires { waiting.now.nodes ≡ nodes }
     {
-        self.visits = self.visits.saturating_add(1);
-        if self.are_taken(nodes) {
-            for node in 0..nodes {
-                self.mark(waiting, node);
-            }
+        for node in 0..nodes {
+            self.mark(waiting, node);
         }
     }
 
@@ -83,23 +79,27 @@ impl Ends {
         }
     }
 
-    /// Marks a node if it waits.
+    /// Marks a node if it waits, and else takes its mark off.
     fn mark(&mut self, waiting: &Links, node: usize)
         requires { node < waiting.now.nodes }
     {
         let word = node / 64;
-        if waiting.is_listed(node) && word < self.words.len() {
-            self.words[word] |= 1u64 << (node % 64);
+        let bit = 1u64 << (node % 64);
+        if word < self.words.len() {
+            if waiting.is_listed(node) {
+                self.words[word] |= bit;
+            } else {
+                self.words[word] &= !bit;
+            }
         }
     }
 
-    /// Takes the mark off the lowest or the highest marked node, in turn, and answers which it is. It does not allocate.
-    pub(crate) fn next(&mut self) -> Option<usize> {
-        self.from_low = !self.from_low;
-        if self.from_low {
-            self.lowest()
-        } else {
-            self.highest()
+    /// The node that is to be taken, by the number of visits. It takes its mark off, and does not allocate.
+    pub(crate) fn next(&mut self, nodes: usize) -> Option<usize> {
+        match self.visits / nodes.max(1) % 3 {
+            0 => self.lowest(),
+            1 => self.highest(),
+            _ => None,
         }
     }
 
