@@ -293,7 +293,7 @@ module _ (source : ProgramShape) (is : IsProgram source.globals source.units) (m
   simulates = record {
     receives = sym (ap receives_in (body_is 0 (is.some_unit, at_first)) ∙ receives_stay rank (body_at source.units 0));
     shared = refl;
-    starts = λ entry is_entry. (0, (refl, ((is.some_unit, at_first), tt)));
+    starts = λ entry is_entry zero. (0, (refl, ((is.some_unit, at_first), tt)));
     meets = λ z from from' r. subst (MeetsAgain Renamed (codes_of source) (codes_of target) z from) (sym r.0)
         (step_meets z from.unit from.frame from.callers (codes_of source from.unit from.frame) refl (code_is from.unit from.frame r.1.0) (calls_there from.unit from.frame r.1.0) r.1.0 r.1.1);
   }

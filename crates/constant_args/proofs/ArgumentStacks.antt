@@ -445,6 +445,6 @@ module _ (graphs middles : List GraphShape) (program : IsGraphProgram graphs) (k
       stacks_keep (graph_machines graphs) (graph_machines middles) Related (record {
         receives = ap (λ (l : List ℕ). length l) (sym first.received);
         shared = sym first.shared;
-        starts = λ entry is. (0, record { unit = refl; frames = entered 0 entry (program.some, λ i c always. absurd (let none = always.later in omega (arith, none))); callers = tt });
+        starts = λ entry is zero. (0, record { unit = refl; frames = entered 0 entry (program.some, λ i c always. absurd (let none = always.later in omega (arith, none))); callers = tt });
         meets = meets;
       })

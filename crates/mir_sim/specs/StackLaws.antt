@@ -351,7 +351,7 @@ module _ (first second : Machines) (R : StackRelation) (simulate : StacksSimulat
   -- the two runs are abreast at the start
   start : (inputs : List ℤ) → AreInputs first inputs → (z : ℕ) × Alike z (first_of first inputs) (first_of second inputs)
   start inputs are =
-      let r = simulate.starts (first_entry (first 0).shared inputs) (first_enters first inputs are) in
+      let r = simulate.starts (first_entry (first 0).shared inputs) (first_enters first inputs are) refl in
       let both : Alike r.0 (first_of first inputs) (first_state (first 0).shared inputs) = record { prints = refl; cheaper = le_refl 0; shallower = le_refl 1; control = r.1 } in
       (r.0, subst (λ n. Alike r.0 (first_of first inputs) (first_state n inputs)) simulate.shared both)
 

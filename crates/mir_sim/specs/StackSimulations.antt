@@ -2,7 +2,7 @@
 -- that the units are not compared one by one: one relation between the stacks of the two sides, which holds at the
 -- start and which both sides keep up, some steps of the one for some steps of the other. For proofs only, of the crates
 -- above too.
-use Rattle.std.specs.Prelude.{◌≡◌, ◌⊎◌, ℕ, ◌+◌, ◌≤◌, ◌<◌, max, List, [], ◌++◌, ℤ}
+use Rattle.std.specs.Prelude.{◌≡◌, ◌⊎◌, ℕ, ◌+◌, ◌≤◌, ◌<◌, max, List, [], ◌++◌, replicate, ℤ, pos}
 use Rattle.mir_base.specs.Frames.{CallEntry, Code, Frame, first_frame}
 use Rattle.mir_base.specs.Runs.{Caller, Control, Running, Ended, Stopped, State, steps}
 use Rattle.mir_base.specs.UnitRuns.{IsEntry}
@@ -73,12 +73,13 @@ pub record MeetsAgain (R : StackRelation) (codes codes' : ℕ → Code) (z : ℕ
   pub moves : (1 ≤ steps) ⊎ (measure < z)
   pub moves' : (1 ≤ steps') ⊎ (measure < z)
 
--- The rule: R holds at the start, whatever the globals are then, and related stacks meet again. It shows that the
--- second program is the same as the first, evaluates no more operators and is never deeper (`stacks_keep`)
+-- The rule: R holds at the start, where each global is 0, and related stacks meet again. It shows that the second
+-- program is the same as the first, evaluates no more operators and is never deeper (`stacks_keep`)
 pub record StacksSimulate (first second : Machines) (R : StackRelation) : Type 0 where
   pub receives : (first 0).receives ≡ (second 0).receives
   pub shared : (first 0).shared ≡ (second 0).shared
   pub starts : (entry : CallEntry) → IsEntry (first 0) entry
+      → entry.globals ≡ replicate (first 0).shared (pos 0)
       → (measure : ℕ) × R measure (first_stack entry) (first_stack entry)
   pub meets : (z : ℕ) (from from' : Stack) → R z from from'
       → MeetsAgain R (codes_in first) (codes_in second) z from from'

@@ -309,6 +309,6 @@ module _ (graphs middles : List GraphShape) (program : IsGraphProgram graphs) (d
       stacks_keep (graph_machines graphs) (graph_machines middles) Related (record {
         receives = ap (λ (l : List ℕ). length l) (sym first.received);
         shared = sym first.shared;
-        starts = λ entry is. (0, starts_related entry is);
+        starts = λ entry is zero. (0, starts_related entry is);
         meets = meets;
       })

@@ -332,6 +332,6 @@ module _ (graphs looped : List GraphShape) (program : IsGraphProgram graphs) (lo
   loops_keep = stacks_keep (graph_machines graphs) (graph_machines looped) Related (record {
     receives = ap (λ (l : List ℕ). length l) (sym (loops 0 program.some).received);
     shared = sym (loops 0 program.some).shared;
-    starts = λ entry is. (0, record { there = program.some; unit = refl; frames = entered_agree 0 entry program.some; callers = tt });
+    starts = λ entry is zero. (0, record { there = program.some; unit = refl; frames = entered_agree 0 entry program.some; callers = tt });
     meets = meets;
   })

@@ -592,6 +592,6 @@ module _ (graphs joined : List GraphShape) (leaves : List (Option GraphShape)) (
   joins_keep = stacks_keep (graph_machines graphs) (graph_machines joined) Related (record {
     receives = ap (λ (l : List ℕ). length l) (sym (joins 0 program.some).received);
     shared = sym (joins 0 program.some).shared;
-    starts = λ entry is. (0, inl (record { there = program.some; unit = refl; frames = entered_agree 0 entry program.some; callers = tt }));
+    starts = λ entry is zero. (0, inl (record { there = program.some; unit = refl; frames = entered_agree 0 entry program.some; callers = tt }));
     meets = meets;
   })
