@@ -217,7 +217,7 @@ swapped true false = refl
 swapped false true = refl
 swapped false false = refl
 
--- it may hold where the relation may
+-- so it may hold between two spans in the other order where it may hold between them
 pub may_turned : (op : RelOp) (s t : Span) → may_relate (turned op) t s ≡ may_relate op s t
 may_turned Eq s t = swapped (int_le t.low s.high) (int_le s.low t.high)
 may_turned Ne s t = ap not (swapped (int_le t.high s.low) (int_le s.high t.low))
@@ -226,7 +226,7 @@ may_turned Le s t = refl
 may_turned Gt s t = refl
 may_turned Ge s t = refl
 
--- what may hold by surer facts may by less sure ones
+-- what may hold between two spans may hold between any that they lie in
 pub may_mono : (op : RelOp) (s s' t t' : Span) → Within s s' → Within t t' → may_relate op s t ≡ true
     → may_relate op s' t' ≡ true
 may_mono Eq s s' t t' v w h = may_stay s s' t t' v w h

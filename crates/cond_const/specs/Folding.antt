@@ -112,7 +112,7 @@ decided (Fails (Const a)) = Some (int_eq (wrapped a) (pos 0))
 abbrev pub decided_test : List Known → tests.Test → Option Bool
 decided_test known test = decided (resolved_test known test)
 
--- a test that is decided has the truth value that it has, and one that is not decided either
+-- whether a test may have this truth value, by what is decided of it: either, where nothing is
 abbrev pub may_be : Bool → Option Bool → Bool
 may_be truth None = true
 may_be true (Some holds) = holds
@@ -124,12 +124,13 @@ may_go test truth known = may_be truth (decided_test known test)
 
 -- ---- the rules
 
--- the number by which it is kept
+-- the number by which what is known of a variable is kept, beside its kind; 0 where none is needed
 abbrev pub number_of : Known → ℤ
 number_of (Fixed c) = c
 number_of Varying = pos 0
 
--- a kind and a number stand for the constant if the kind is 0
+-- what is known of a variable is kept as a kind and a number: kind 0 is the constant of this number, and any other says
+-- that the value varies
 abbrev pub decoded_known : ℕ → ℤ → Known
 decoded_known kind number = if nat_eq kind 0 then Fixed number else Varying
 

@@ -111,7 +111,7 @@ shr_zero k = ap (λ n. wrapped (pos n)) (zero-div (2 ^ k)) ∙ int_wrap_fits w64
 shra_zero : (k : ℕ) → int_div_euclid (pos 0) (pos (2 ^ k)) ≡ pos 0
 shra_zero k = ap pos (zero-div (2 ^ k))
 
--- the table of a variable with itself, operator by operator
+-- each row of `identity_same`, operator by operator: `a op a` is what the row says, and does not trap
 pub same_keeps : (op : Op) (a : ℤ) → FitsSigned w64 a → IsIdentity (identity_same op) a op a a
 same_keeps Sub a fits = (refl, wraps_to (a -ℤ a) (pos 0) (omega (arith, ints)) zero_fits)
 same_keeps Min a fits = (refl, either (int_lt a a) a)
@@ -145,7 +145,7 @@ right_at_two op a c d e rule other first second =
     at_number c d rule (where_equal c e other Absent) (λ r n. IsIdentity r a op a n) first
     (right_at op a c e other second)
 
--- the table of a variable and a constant
+-- each row of `identity_right`: `a op c`, with the constant c on the right, is what the row says, and does not trap
 pub right_keeps : (op : Op) (a c : ℤ) → FitsSigned w64 a → FitsSigned w64 c → IsIdentity (identity_right op c) a op a c
 right_keeps Add a c fits fits' =
     right_at Add a c (pos 0) Itself (refl, wraps_to (a +ℤ pos 0) a (omega (arith, ints)) fits)

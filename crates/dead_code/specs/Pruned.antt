@@ -22,7 +22,7 @@ pub record IsPruned (graph pruned : GraphShape) : Type 0 where
   pub dead_are : (n : ℕ) → n < length graph.nodes → (dead n ≡ true) ↔ IsDeadAt graph n
   pub is : pruned ≡ record graph { nodes = pruned_from dead 0 graph.nodes }
 
--- each assignment of a global whose value is handed on stays
+-- each assignment of a global whose value some later call or return may hand on to other units stays
 abbrev pub KeepsHandedOn : GraphShape → GraphShape → Type 0
 KeepsHandedOn graph pruned = (n x : ℕ) (rhs : Rhs) (next : ℕ) → x < graph.shared
     → slice_get graph.nodes n ≡ Some (Assign x rhs next) → IsHandedOn graph x next

@@ -55,6 +55,7 @@ word_of : (n : ℕ) → n < 2 ^ 64 → to_z w64 n ≡ wrapped (pos n)
 unfolding int_wrap
 word_of n low = let e : n % 2 ^ 64 ≡ n = mod-eq_of_lt low in ap (to_z w64) (sym e)
 
+-- and read without a sign again, it is that number
 reads_back : (n : ℕ) → n < 2 ^ 64 → unsigned (wrapped (pos n)) ≡ n
 reads_back n low = sym (bits_are (wrapped (pos n)) (wrapped_fits (pos n))) ∙ ap (of_z w64) (sym (word_of n low)) ∙ of_z-to_z w64 n low
 

@@ -7,7 +7,7 @@ use Rattle.fix_solve.specs.Net.{Net, NetLaws, value_at, HoldsFirst}
 use Rattle.fix_solve.specs.Solving.{Working, Pushed, AllDone, load, degree, nodes_left, pushes_left}
 use Rattle.fix_solve.proofs.Solves.{push_solves, visit_begins, visit_ends, start_solves, size_above}
 use Rattle.fix_solve.proofs.Loads.{load_push, load_take}
-use Rattle.fix_solve.proofs.Waiting.{first_waits, leaves_other, leaves_here}
+use Rattle.fix_solve.proofs.Waiting.{leaves_other, leaves_here}
 use Rattle.node_list.specs.Lists.{is_listed, list_at}
 
 -- without a node fewer pushes are left to do, and fewer visits
@@ -63,11 +63,11 @@ module _ {V : Type 0} (below : V → V → Type 0) (size : V → ℕ) (rank : V 
         → load net rank weight (value_at net values) fl' + weight node ≤ load net rank weight (value_at net values) fl
     load_begins weight on off = load_take below size rank order net laws weight (value_at net values) fl fl' node in_range others_fl on off
 
-  -- what is left to do becomes less, by both weights, when the first node that waits is taken from the list
-  pub load_taken : (node : ℕ) (values : List V) (lists : List (List ℕ)) (rest : List ℕ) (fl' : ℕ → Bool) → node < net.nodes → Working below net values (is_listed lists) AllDone
-      → length lists ≡ 1 → list_at lists 0 ≡ node ∷ rest → ((k : ℕ) → fl' k ≡ (is_listed lists k && not (eqb k node))) → LessLeft net rank values (is_listed lists) fl' node
-  load_taken node values lists rest fl' in_range w one is listed =
-      let less = λ (weight : ℕ → ℕ). load_begins node values (is_listed lists) fl' in_range w (λ n d. leaves_other (is_listed lists) fl' node n listed d) weight (first_waits lists node rest one is) (leaves_here (is_listed lists) fl' node listed) in
+  -- what is left to do becomes less, by both weights, when a node that waits is taken from the list
+  pub load_taken : (node : ℕ) (values : List V) (lists : List (List ℕ)) (fl' : ℕ → Bool) → node < net.nodes → Working below net values (is_listed lists) AllDone
+      → is_listed lists node ≡ true → ((k : ℕ) → fl' k ≡ (is_listed lists k && not (eqb k node))) → LessLeft net rank values (is_listed lists) fl' node
+  load_taken node values lists fl' in_range w waits listed =
+      let less = λ (weight : ℕ → ℕ). load_begins node values (is_listed lists) fl' in_range w (λ n d. leaves_other (is_listed lists) fl' node n listed d) weight waits (leaves_here (is_listed lists) fl' node listed) in
       record { pushes = less (degree net); nodes = less (λ _. 1) }
 
   -- with all edges of the node done, all are

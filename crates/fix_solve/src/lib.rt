@@ -10,6 +10,7 @@
 //! of them.
 #![tactic(auto)]
 
+mod ends;
 mod laws;
 mod news_kinds;
 mod order;

@@ -1,11 +1,13 @@
-// The worklist: nodes are taken from the front, pushed along their edges, and targets that changed are put at the end.
-ghost use Rattle.std.specs.Prelude.{◌≡◌, ◌≢◌, ℕ, ◌+◌, ◌<◌, ◌≤◌, ◌||◌, true, length, slice_index_or};
-ghost use Rattle.node_list.specs.Lists.{is_listed};
+// The worklist: nodes are taken from it, pushed along their edges, and targets that changed are put at the end. Nodes are
+// taken from the front at first, and where many visits were made the lowest and the highest too.
+ghost use Rattle.std.specs.Prelude.{◌≡◌, ◌≢◌, ℕ, ◌+◌, ◌<◌, ◌≤◌, ◌||◌, true, [], length, slice_index_or, IfNone, IfSome};
+ghost use Rattle.node_list.specs.Lists.{NoLongerLists, is_listed, list_at};
 ghost use Rattle.fix_solve.specs.Net.{AreOfSize, HoldsFirst, HoldsLeast, most_pushes};
 ghost use Rattle.fix_solve.specs.NewsFlows.{AreAllNew, NewsFit, Telling};
 ghost use Rattle.fix_solve.specs.OrderWalks.{AreNodes};
 ghost use Rattle.fix_solve.specs.Solving.{AllDone, AllDoneBut, HaveNews, CanWait, IsOneList, Pushed, Working, degree, nodes_left, pushes_left};
 
+use crate::ends::Ends;
 use crate::{Flow, Lattice, News, Steps};
 use node_list::Links;
 
@@ -14,6 +16,7 @@ pub(crate) fn solve_from<F: Flow>(
     values: &mut [F::Value],
     news: &mut [<F::Value as Lattice>::News],
     waiting: &mut Links,
+    ends: &mut Ends,
     order: &[usize],
     flow: &F,
     steps: &mut Steps<F::Ledger>,
@@ -33,7 +36,8 @@ pub(crate) fn solve_from<F: Flow>(
     let nodes = values.len();
     enlist_all(waiting, order, nodes);
     renew_each(news);
-    drain(values, news, waiting, flow, steps);
+    ends.restart();
+    drain(values, news, waiting, ends, flow, steps);
 }
 
 /// Makes all of each value news.
@@ -109,6 +113,7 @@ fn drain<F: Flow>(
     values: &mut [F::Value],
     news: &mut [<F::Value as Lattice>::News],
     waiting: &mut Links,
+    ends: &mut Ends,
     flow: &F,
     steps: &mut Steps<F::Ledger>,
 )
@@ -129,8 +134,55 @@ fn drain<F: Flow>(
         + pushes_left (F.net flow.now) F.Value.rank values.old (is_listed waiting.old.lists) }
     ensures counts { steps.old ≤ steps.new }
 {
-    while let Some(node) = waiting.pop_front(0) {
+    let nodes = values.len();
+    while let Some(node) = take(waiting, ends, nodes) {
         visit(values, news, waiting, flow, node, steps);
+        ends.note(waiting, flow, node, nodes);
+    }
+}
+
+/// Takes a node out of the list, and answers `None` exactly where none waits.
+fn take(waiting: &mut Links, ends: &mut Ends, nodes: usize) -> Option<usize>
+    requires one_list { IsOneList waiting.old }
+    requires nodes { waiting.old.nodes ≡ nodes }
+    ensures one_list { IsOneList waiting.new }
+    ensures nodes { waiting.new.nodes ≡ nodes }
+    ensures empty { IfNone result ((list_at waiting.old.lists 0 ≡ [])
+        × (waiting.new ≡ waiting.old)) }
+    ensures waited { IfSome result (λ node. is_listed waiting.old.lists node ≡ true) }
+    ensures in_range { IfSome result (λ node. node < nodes) }
+    ensures listed { IfSome result (λ node. NoLongerLists node waiting.old.lists waiting.new.lists) }
+{
+    match end_of(ends, waiting, nodes) {
+        Some(node) => {
+            waiting.unlink(node);
+            Some(node)
+        }
+        None => {
+            let first = waiting.pop_front(0);
+            first
+        }
+    }
+}
+
+/// A node that waits, where the order of the list has been left and such a one is marked.
+fn end_of(ends: &mut Ends, waiting: &Links, nodes: usize) -> Option<usize>
+    requires { waiting.now.nodes ≡ nodes }
+    ensures in_range { IfSome result (λ node. node < nodes) }
+    ensures waits { IfSome result (λ node. is_listed waiting.now.lists node ≡ true) }
+{
+    if !ends.are_taken(nodes) {
+        return None;
+    }
+    match ends.next(nodes) {
+        None => None,
+        Some(node) => {
+            if node < nodes && waiting.is_listed(node) {
+                Some(node)
+            } else {
+                None
+            }
+        }
     }
 }
 

@@ -3,6 +3,7 @@ ghost use Rattle.std.specs.Prelude.{◌≡◌, ◌+◌, ◌<◌, ◌≤◌, IfOk
 ghost use Rattle.fix_solve.specs.NewsFlows.{NewsFit};
 ghost use Rattle.fix_solve.specs.Net.{AreOfSize, HoldsFirst, HoldsLeast, most_pushes};
 
+use crate::ends::Ends;
 use crate::order::order_of;
 use crate::pushes::solve_from;
 use crate::{Flow, Lattice, Memory, Steps};
@@ -12,13 +13,14 @@ use std::marker::Model;
 
 /// A value for each node. Contracts see it as the list of these.
 ///
-/// It also holds what of each is news, the list of the nodes that wait for a visit, and the order in which they are first
-/// visited, the last first, so that the solver does not allocate.
+/// It also holds what of each is news, the list of the nodes that wait for a visit, marks by which its ends are found, and
+/// the order in which they are first visited, the last first, so that the solver does not allocate.
 #[derive(Drop)]
 pub struct Work<V: Lattice> {
     values: Vec<V>,
     news: Vec<V::News>,
     waiting: Links,
+    ends: Ends,
     order: Vec<usize>,
 }
 
@@ -44,10 +46,12 @@ impl<V: Lattice + Drop> Work<V> {
         let news = first_news(alloc, flow)?;
         let waiting = Links::new(alloc, flow.nodes(), 1)?;
         let order = order_of(alloc, flow)?;
+        let ends = Ends::new(alloc, flow.nodes())?;
         Ok(Work {
             values,
             news,
             waiting,
+            ends,
             order,
         })
     }
@@ -106,6 +110,7 @@ pub fn solve<F: Flow>(work: &mut Work<F::Value>, flow: &F, steps: &mut Steps<F::
         &mut work.values,
         &mut work.news,
         &mut work.waiting,
+        &mut work.ends,
         &work.order,
         flow,
         steps,

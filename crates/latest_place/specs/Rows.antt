@@ -11,12 +11,13 @@ use Rattle.latest_place.specs.declared.equations.Uses.{Uses}
 
 -- ---- one bit
 
--- n is earliest, or every path to n has an earliest node before n such that no node from it on uses
+-- the bit is delayed at n: n is earliest, or every path to n has an earliest node before n such that no node from that
+-- one up to n, n left out, uses the expression. `early` and `uses` tell of each node the bit of one expression
 abbrev pub IsDelayedBit : List Node → (ℕ → Bool) → (ℕ → Bool) → ℕ → Type 0
 IsDelayedBit nodes early uses n = (early n ≡ true)
     ⊎ BornBefore nodes (λ m. early m && not (uses m)) uses n
 
--- n is delayed, and uses or has a successor that is not delayed
+-- the bit is latest at n: it is delayed there, and n uses the expression or has a successor at which it is not delayed
 abbrev pub IsLatestBit : List Node → (ℕ → Bool) → (ℕ → Bool) → ℕ → Type 0
 IsLatestBit nodes delayed uses n = (delayed n ≡ true)
     × ((uses n ≡ true) ⊎ ((s : ℕ) × HasEdge nodes n s × (delayed s ≡ false)))

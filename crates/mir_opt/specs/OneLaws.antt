@@ -245,7 +245,7 @@ pub move_is_one : (source : UnitShape) (a b : MoveUnit) → MotionCleansWithin a
     → LinksMove source b → a ≡ b
 move_is_one source a b within p q = moves_are_one movable_exprs IsAnticipatable source a b within p.start q.start p.motion q.motion p.sweeps q.sweeps
 
--- and one division trail
+-- and one trail of the motion of divisions, as `divisions` makes it
 pub division_is_one : (source : UnitShape) (a b : MoveUnit) → MotionCleansWithin a
     → LinksDivision source a → LinksDivision source b → a ≡ b
 division_is_one source a b within p q = moves_are_one dividing_exprs MustComeTo source a b within p.start q.start p.motion q.motion p.sweeps q.sweeps

@@ -333,13 +333,15 @@ target_output : (Gives : ProgramShape → ProgramShape → Type 0) (program : Pr
     → (outcome : Outcome) (one : List ℕ) → WritesTarget Gives program outcome one → (again : Outcome) (other : List ℕ) → WritesTarget Gives program again other → one ≡ other
 target_output Gives program same outcome one p again other q = p.written.is ∙ ap canonical_text (same p.target q.target p.gives q.gives) ∙ sym q.written.is
 
--- trails
+-- a program has one trail of all passes
 optimises_one : (trail other : Trail) → Optimises trail → other.source ≡ trail.source → Optimises other → trail ≡ other
 optimises_one trail other p is q = p.only other is q.linked
 
+-- one trail of code motion alone
 moves_one : (trail other : MoveTrail) → MovesCode trail → other.source ≡ trail.source → MovesCode other → trail ≡ other
 moves_one trail other p is q = p.improves.only other is q.improves.linked
 
+-- and one trail of the motion of divisions
 divides_one : (trail other : MoveTrail) → Divides trail → other.source ≡ trail.source → Divides other → trail ≡ other
 divides_one trail other p is q = p.improves.only other is q.improves.linked
 

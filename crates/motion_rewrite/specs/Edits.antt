@@ -15,11 +15,12 @@ temp_in = number_at
 
 -- ---- one node
 
--- the node of this row reads the temporary of the first bit that is set
+-- what becomes of a node, by its row of replacements, which has a bit for each expression: its right side becomes the
+-- temporary of the first bit that is set, and it stays where none is
 abbrev pub change_by : List ℕ → List Bool → Change
 change_by temps row = reading (temp_in temps) (set_from 0 row)
 
--- before the node of this row each expression whose bit is set is assigned to its temporary
+-- what is put before a node, by its row of insertions: each expression whose bit is set, assigned to its temporary
 abbrev pub puts_by : List ℕ → List Expr → List Bool → List Insertion
 puts_by temps table row = insertions_of (temp_in temps) table (set_from 0 row)
 

@@ -73,9 +73,9 @@ longer_end a b path p q lt = let r = ends_compare b a path q p (omega (arith, lt
 pub longer_length : (a b : List ℕ) → IsLonger a b → length b < length a
 longer_length a b p = let e = ap length p.is in let l = length-append p.front b in omega (arith, e, l)
 
--- ---- the nearest node that is so
+-- ---- the nearest node of which a statement `so` holds; paths are lists with the newest node first
 
--- the path from there on
+-- the path up to the nearest such node: the list without the newer nodes before it; empty where no node is so
 abbrev pub latest : (ℕ → Bool) → List ℕ → List ℕ
 latest so [] = []
 latest so (n ∷ path) = if so n then n ∷ path else latest so path

@@ -34,14 +34,15 @@ pub passed_append : (seed bar : ℕ → Bool) (xs ys : List ℕ) (x : Bool) → 
 passed_append seed bar [] ys x = refl
 passed_append seed bar (n ∷ xs) ys x = passed_append seed bar xs ys (passed seed bar n x)
 
--- and one that goes on by one node
+-- what comes out of the first i + 1 nodes is what comes out of the first i, passed on by the next one
 pub passed_next : (seed bar : ℕ → Bool) (xs : List ℕ) (i n : ℕ) (x : Bool) → slice_get xs i ≡ Some n
     → passed_all seed bar x (take (suc i) xs) ≡ passed seed bar n (passed_all seed bar x (take i xs))
 passed_next seed bar xs i n x e = ap (passed_all seed bar x) (take_next xs i n e) ∙ passed_append seed bar (take i xs) (n ∷ []) x
 
 -- ---- the complement
 
--- where a bit does not come, past a node, it is stopped and not born, or did not come and is not born
+-- past a node a bit is not there exactly where it is stopped and not born there, or did not come and is not born; s, k
+-- and x say whether it is born, is stopped, and did not come
 unpassed : (s k x : Bool) → ((k && not s) || (x && not s)) ≡ not (s || (not x && not k))
 unpassed true true x = both x
   where

@@ -115,16 +115,16 @@ ComesBefore a b = (a.node < b.node) ⊎ ((a.node ≡ b.node) × (a.var < b.var))
 abbrev pub have_one_site : PutBefore → PutBefore → Bool
 have_one_site a b = nat_eq a.node b.node && nat_eq a.var b.var
 
--- the first, where there is one, and the second do
+-- whether the first is there and has the node and the variable of the second
 abbrev pub is_at_site : Option PutBefore → PutBefore → Bool
 is_at_site None put = false
 is_at_site (Some last) put = have_one_site last put
 
--- the last of the list, where there is one, and this one do
+-- whether the list ends with an insertion before the same node and of the same variable as this one
 abbrev pub ends_at_site : List PutBefore → PutBefore → Bool
 ends_at_site puts put = is_at_site (slice_get puts (length puts - 1)) put
 
--- the list with this one at its end, where the last has another node or variable
+-- the list with this one at its end; as it is, where its last one has the same node and variable
 abbrev pub with_new : List PutBefore → PutBefore → List PutBefore
 with_new puts put = if ends_at_site puts put then puts else puts ++ put ∷ []
 

@@ -14,7 +14,8 @@ pub record IsHeldUp (graph : GraphShape) (p : Pattern) (s : ℕ) : Type 0 where
   pub leads : LeadsOn graph.nodes s at
   pub blocks : blocks_at p.var p.rhs graph at ≡ true
 
--- this is the pattern of the node, and not held up after it; or the node has none but one that is held up after it
+-- what a node gives to the table of patterns that can still move: with `Some p`, p is its pattern and is not held up
+-- after it; with `None`, it has no pattern, or its pattern is held up after it
 abbrev pub MovesFrom : GraphShape → Node → Option Pattern → Type 0
 MovesFrom graph node (Some p) = (pattern_of node ≡ Some p)
     × ((next : ℕ) × (node ≡ Assign p.var p.rhs next) × (IsHeldUp graph p next → ⊥))

@@ -55,12 +55,12 @@ rounds_are_one graph (next ∷ rest) (next' ∷ rest') p q = rounds_from_are_one
 
 -- ---- layouts
 
--- graphs with these units have one layout exactly where the units are equal
+-- where two graphs have one layout, the units that are laid out of them are equal
 pub one_layout_is : (first second : GraphShape) (a b : UnitShape) → IsLayout first a
     → IsLayout second b → HaveOneLayout first second → a ≡ b
 one_layout_is first second a b p q one = layout_is_one first a one.unit p one.of_first ∙ layout_is_one second one.unit b one.of_second q
 
--- and then they do
+-- and where these units are equal, the graphs have one layout
 pub is_one_layout : (first second : GraphShape) (a b : UnitShape) → IsLayout first a
     → IsLayout second b → a ≡ b → HaveOneLayout first second
 is_one_layout first second a b p q same = record { unit = a; of_first = p; of_second = subst (IsLayout second) (sym same) q }
@@ -85,7 +85,7 @@ abbrev AreRoundsUpTo : ℕ → GraphShape → List GraphShape → Type 0
 AreRoundsUpTo more graph [] = ⊥
 AreRoundsUpTo more graph (next ∷ rest) = AreRoundsFrom more graph next rest
 
--- a last round after these
+-- a last round after these makes the whole list, where it changes no layout or as many are made as may be
 ends_from : (more : ℕ) (graph : GraphShape) (rounds : List GraphShape) (last next : GraphShape)
     → LeadBy graph rounds last → IsRound last next → length rounds ≤ more
     → ((length rounds ≡ more) ⊎ HaveOneLayout last next)
@@ -101,7 +101,7 @@ ends_from (suc more) graph (round ∷ later ∷ rounds) last next leads is few e
     fewer : (m k : ℕ) → ((suc k ≡ suc m) ⊎ HaveOneLayout last next) → (k ≡ m) ⊎ HaveOneLayout last next
     fewer m k e = elim e [ inl all ↦ inl (omega (arith, all)) | inr one ↦ inr one ]
 
--- the list of rounds that ends with it
+-- so it is of the rounds of a graph, of which there are sixteen at most: 15 that change the layout, and a last one
 pub rounds_end : (graph : GraphShape) (rounds : List GraphShape) (last next : GraphShape)
     → LeadBy graph rounds last → IsRound last next → length rounds ≤ 15
     → ((length rounds ≡ 15) ⊎ HaveOneLayout last next) → AreRounds graph (rounds ++ next ∷ [])

@@ -56,15 +56,17 @@ add_nothing v fits = let e : v +ℤ pos 0 ≡ v = omega (arith, ints) in ap wrap
 
 -- ---- products
 
--- a negative factor on the left, on the right, and on both sides
+-- a negative factor on the left
 minus_left : (a b : ℕ) → neg_ℤ (pos a) *ℤ pos b ≡ neg_ℤ (pos (a * b))
 minus_left zero b = rw (zero-mul b) refl
 minus_left (suc a) b = refl
 
+-- a negative factor on the right
 minus_right : (a b : ℕ) → pos a *ℤ neg_ℤ (pos b) ≡ neg_ℤ (pos (a * b))
 minus_right a zero = rw (mul-zero a) refl
 minus_right a (suc b) = refl
 
+-- two negative factors
 minus_both : (a b : ℕ) → neg_ℤ (pos a) *ℤ neg_ℤ (pos b) ≡ pos (a * b)
 minus_both zero zero = refl
 minus_both zero (suc b) = rw (zero-mul (suc b)) refl
@@ -88,15 +90,19 @@ mul_twice v k c = int_wrap-mul_left w64 (v *ℤ k) c ∙ ap wrapped (mul_mul v k
 
 -- ---- the lesser and the greater
 
+-- the order of two minima is free: (v min k) min c
 pub min_twice : (v k c : ℤ) → int_min (int_min v k) c ≡ int_min v (int_min k c)
 min_twice v k c = omega (arith, ints, clamps)
 
+-- the order of two maxima is free: (v max k) max c
 pub max_twice : (v k c : ℤ) → int_max (int_max v k) c ≡ int_max v (int_max k c)
 max_twice v k c = omega (arith, ints, clamps)
 
+-- the two operands of a minimum may be turned
 pub min_turned : (v c : ℤ) → int_min c v ≡ int_min v c
 min_turned v c = omega (arith, ints, clamps)
 
+-- the two operands of a maximum may be turned
 pub max_turned : (v c : ℤ) → int_max c v ≡ int_max v c
 max_turned v c = omega (arith, ints, clamps)
 
@@ -133,12 +139,15 @@ bits_twice f low free v k c =
 or_or : (a b c : ℕ) → bit_or (bit_or a b) c ≡ bit_or a (bit_or b c)
 or_or a b c = same_from_bits (bit_or (bit_or a b) c) (bit_or a (bit_or b c)) (λ i. omega (arith, bit_at_or (bit_or a b) c i, bit_at_or a b i, bit_at_or a (bit_or b c) i, bit_at_or b c i))
 
+-- (v and k) and c, on words: each result is wrapped, and read without a sign by the next operator
 pub and_twice : (v k c : ℤ) → wrapped (pos (bit_and (unsigned (wrapped (pos (bit_and (unsigned v) (unsigned k))))) (unsigned c))) ≡ wrapped (pos (bit_and (unsigned v) (unsigned (wrapped (pos (bit_and (unsigned k) (unsigned c)))))))
 and_twice = bits_twice bit_and (and_lt 64) (λ a b c. and_assoc c a b)
 
+-- (v or k) or c, on words
 pub or_twice : (v k c : ℤ) → wrapped (pos (bit_or (unsigned (wrapped (pos (bit_or (unsigned v) (unsigned k))))) (unsigned c))) ≡ wrapped (pos (bit_or (unsigned v) (unsigned (wrapped (pos (bit_or (unsigned k) (unsigned c)))))))
 or_twice = bits_twice bit_or (or_lt 64) or_or
 
+-- (v xor k) xor c, on words
 pub xor_twice : (v k c : ℤ) → wrapped (pos (bit_xor (unsigned (wrapped (pos (bit_xor (unsigned v) (unsigned k))))) (unsigned c))) ≡ wrapped (pos (bit_xor (unsigned v) (unsigned (wrapped (pos (bit_xor (unsigned k) (unsigned c)))))))
 xor_twice = bits_twice bit_xor (xor_lt 64) xor_assoc
 
@@ -183,10 +192,12 @@ div_past n far low = elim (cases_lt 63 far) [
   | inr within ↦ (let is : far ≡ min far 63 = omega arith in ap (λ k. n / 2 ^ k) is)
 ]
 
+-- a shift to the right with the sign goes by 63 where it would go further
 shra_past : (v : ℤ) (far : ℕ) → FitsSigned w64 v → int_div_euclid v (pos (2 ^ far)) ≡ int_div_euclid v (pos (2 ^ min far 63))
 shra_past (pos n) far fits = ap pos (div_past n far fits.sfits)
 shra_past (negsuc n) far fits = ap negsuc (div_past n far (omega (arith, fits.sfits)))
 
+-- two shifts to the right with the sign are one by both distances, 63 at most
 pub shra_twice : (v : ℤ) (a b : ℕ) → FitsSigned w64 v → int_div_euclid (int_div_euclid v (pos (2 ^ a))) (pos (2 ^ b)) ≡ int_div_euclid v (pos (2 ^ min (a + b) 63))
 shra_twice v a b fits = shra_shra v a b ∙ shra_past v (a + b) fits
 

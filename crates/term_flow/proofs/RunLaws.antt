@@ -64,6 +64,7 @@ next_fits shared received (Some (Return a)) f fits = tt
 
 -- ---- transitions that show the same, the second counting no more, to equal frames
 
+-- transitions of one kind that show the same and lead to the same frame, of which the second counts no more operators
 abbrev pub AsCheap : Transition → Transition → Type 0
 AsCheap t t' = Alike (λ f g. g ≡ f) t t'
 

@@ -102,17 +102,19 @@ module _ (k : ℕ) (held : ℕ → Option Rhs) (low : (v : ℕ) (rhs : Rhs) → 
 
 -- ---- divisions
 
--- of a dividing operator nothing is read
+-- of a dividing operator with a constant on the right nothing is read: division and remainder are not joined
 unread_right : (op : Op) (x : ℕ) (c : ℤ) → is_dividing op ≡ true → right_read op x c ≡ None
 unread_right Div x c e = refl
 unread_right Mod x c e = refl
 unread_right _ x c e = cc
 
+-- nor with the constant on the left
 unread_left : (op : Op) (c : ℤ) (x : ℕ) → is_dividing op ≡ true → left_read op c x ≡ None
 unread_left Div c x e = refl
 unread_left Mod c x e = refl
 unread_left _ c x e = cc
 
+-- nor of any two operands
 unread : (op : Op) (left right : Operand) → is_dividing op ≡ true → read_binary op left right ≡ None
 unread op (Var x) (Var y) e = refl
 unread op (Var x) (Const c) e = unread_right op x (wrapped c) e

@@ -99,7 +99,7 @@ solution c Sub k = Some (value_of_op Sub k c)
 solution c Xor k = Some (value_of_op Xor k c)
 solution c _ k = None
 
--- the constant of a shift that goes so far, where one does
+-- the constant of a shift that goes so far; none where that is 64 or more, since shifts go modulo 64
 abbrev pub shift_within : ℕ → Option ℤ
 shift_within far = if nat_le far 63 then Some (pos far) else None
 
@@ -120,7 +120,7 @@ joint_constant Shr k c = shift_within (joint_distance k c)
 joint_constant Shra k c = Some (pos (min (joint_distance k c) 63))
 joint_constant _ k c = None
 
--- the same operator again
+-- the operator with c on what the same operator with k makes of x, as (x + k) + c; none where the two differ
 abbrev pub same_again : Op → ℤ → Op → ℕ → ℤ → Option ByConstant
 same_again op c q x k =
     if ops.eq op q then option_map (with_constant op x) (joint_constant op k c) else None
@@ -177,7 +177,7 @@ of_truth op c held = if int_eq c (pos 0) then of_zero op held else None
 abbrev pub is_term : Rhs → Bool
 is_term rhs = if is_some (read_rhs rhs) then true else is_some (denied_rhs rhs)
 
--- the right side of what it is, where it is
+-- an operator with a variable and a constant, as a right side
 abbrev pub rhs_from : Option ByConstant → Option Rhs
 rhs_from None = None
 rhs_from (Some t) = Some (rhs_by t.op t.var t.constant)

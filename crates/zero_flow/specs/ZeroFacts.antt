@@ -51,11 +51,11 @@ zero_fact_kind Zero = 1
 zero_fact_kind NotZero = 2
 zero_fact_kind Any = 3
 
--- its kind says all
+-- facts are kept as a kind and a number, as other rules have it; here the kind says all, and the number is 0
 abbrev pub no_number : ZeroFact → ℤ
 no_number fact = pos 0
 
--- what a kind stands for
+-- the fact that a kind stands for, as `zero_fact_kind` numbers them; of 3 and above, any value
 abbrev pub decoded_zero_fact : ℕ → ℤ → ZeroFact
 decoded_zero_fact kind number =
     if nat_eq kind 0 then Never

@@ -1,5 +1,5 @@
-use Rattle.std.proofs.Common.{◌<◌, arith, ◌∙◌}
-use Rattle.node_list.specs.Lists.{is_listed, list_at}
+use Rattle.std.proofs.Common.{◌<◌, length, arith, ◌∙◌}
+use Rattle.node_list.specs.Lists.{is_listed}
 use Rattle.fix_solve.specs.Net.{value_at}
 use Rattle.fix_solve.proofs.Solves.{end_solves}
 use Rattle.fix_solve.proofs.Visits.{LessLeft, load_taken}
@@ -7,12 +7,12 @@ use Rattle.fix_solve.proofs.Waiting.{none_waits}
 use Rattle.fix_solve.proofs.pushes.drain.Goals as goal
 use Rattle.fix_solve.proofs.pushes.drain.Goals.{After-visit}
 
-less_left : (g : _) (c : After-visit g) → LessLeft (g.F.Flow.net c.args.flow.now) g.F.Value.Lattice.rank c.loop-node.values (is_listed c.loop-node.waiting.lists) (is_listed c.pop_front.new.self.lists) c.in-Some.node
+less_left : (g : _) (c : After-visit g) → LessLeft (g.F.Flow.net c.args.flow.now) g.F.Value.Lattice.rank c.loop-node.values (is_listed c.loop-node.waiting.lists) (is_listed c.take.new.waiting.lists) c.in-Some.node
 less_left g c =
     let inv = c.loop-node.invariant in
-    let low : c.in-Some.node < c.loop-node.waiting.nodes = c.in-Some.ensures.in_range in
+    let low : c.in-Some.node < length c.args.values.now = c.in-Some.ensures.in_range in
     load_taken g.F.Value.Lattice.below g.F.Value.Lattice.size g.F.Value.Lattice.rank g.met.F.Value.Lattice.laws (g.F.Flow.net c.args.flow.now) (g.met.F.Flow.laws c.args.flow.now c.requires.valid)
-    c.in-Some.node c.loop-node.values c.loop-node.waiting.lists (list_at c.pop_front.new.self.lists 0) (is_listed c.pop_front.new.self.lists) (rw inv.nodes at low) inv.working inv.one_list c.in-Some.ensures.empty c.in-Some.ensures.listed
+    c.in-Some.node c.loop-node.values c.loop-node.waiting.lists (is_listed c.take.new.waiting.lists) (rw c.requires.working.len at low) inv.working c.in-Some.ensures.waited c.in-Some.ensures.listed
 
 pub loop-node-smaller : goal.loop-node-smaller
 loop-node-smaller g c =
@@ -26,7 +26,7 @@ loop-node-preserved g c =
     record {
       counts = omega (arith, inv.counts, c.visit.ensures.counts);
       one_list = c.visit.ensures.one_list;
-      nodes = c.visit.ensures.nodes ∙ c.in-Some.ensures.nodes ∙ inv.nodes;
+      nodes = c.visit.ensures.nodes ∙ c.in-Some.ensures.nodes ∙ c.requires.working.len;
       working = c.visit.ensures.working;
       fit = c.visit.ensures.fit;
       telling = c.visit.ensures.telling;
