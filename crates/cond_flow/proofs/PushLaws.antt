@@ -1,5 +1,5 @@
 -- What a push leaves, where what is not news has passed.
-use Rattle.std.proofs.Common.{◌≡◌, inl, inr, ℕ, ◌<◌, Bool, true, false, List, length, slice_get, Some, refl, sym, ap, ◌∙◌, subst}
+use Rattle.std.proofs.Common.{◌≡◌, inl, inr, ℕ, ◌<◌, Bool, true, false, List, length, refl, sym, ap, ◌∙◌, subst}
 use Rattle.std.proofs.lemmas.Bool.{cases_Bool}
 use Rattle.fix_solve.specs.Order.{IsLeastUpper}
 use Rattle.fix_solve.specs.Pointwise.{pointwise_refl}
@@ -9,7 +9,7 @@ use Rattle.cond_flow.specs.Catching.{AgreeOff, AreOff, HasPassed, IsCaught}
 use Rattle.cond_flow.specs.NewsShapes.{NewsShape, is_among}
 use Rattle.cond_flow.specs.Passing.{passed_along}
 use Rattle.cond_flow.specs.Raising.{IsRaised}
-use Rattle.cond_flow.specs.Reading.{AreApart, ReadsAlike, touches}
+use Rattle.cond_flow.specs.Reading.{AreApart, ReadsAlike}
 use Rattle.cond_flow.specs.Rules.{OutsideShape, Rules, FrameRules, OrderRules, RisingRules, known_at, within}
 use Rattle.cond_flow.specs.States.{NodeState, Unreached, Knows, BelowState, is_reached, state_where}
 use Rattle.cond_flow.proofs.RaisingLaws.{raised_joins}

@@ -6,7 +6,7 @@ use Rattle.fix_solve.specs.Order.{IsLeastUpper}
 use Rattle.fix_solve.specs.Pointwise.{Pointwise, pointwise_antisym, pointwise_length, pointwise_refl, pointwise_trans}
 use Rattle.cond_flow.specs.Catching.{AgreeOff, AreOff, HasPassed, IsCaught}
 use Rattle.cond_flow.specs.Caught.{caught_all}
-use Rattle.cond_flow.specs.NewsShapes.{NewsShape, IsNoted, IsNotedIf, is_among}
+use Rattle.cond_flow.specs.NewsShapes.{NewsShape, IsNotedIf, is_among}
 use Rattle.cond_flow.specs.PassingLaws.{below_at}
 use Rattle.cond_flow.specs.Raising.{IsRaised, IsRaisedTo, KeepsRaised}
 use Rattle.cond_flow.specs.Rules.{Rules, OrderRules, RisingRules, known_at}

@@ -13,8 +13,9 @@ use Rattle.cond_flow.specs.Rules.{Rules, OrderRules, RisingRules}
 use Rattle.cond_flow.specs.States.{NodeState, Unreached, size_of, state_where}
 use Rattle.cond_flow.specs.FlowLaws.{where_size}
 use Rattle.cond_flow.specs.PassingLaws.{length_first}
+use Rattle.cond_flow.specs.Handing.{AreHanded}
 use Rattle.cond_flow.specs.KnownBefore.{AreKnownBefore, IsKnownBefore, PassesTo, state_of_known}
-use Rattle.cond_flow.specs.Telling.{IsTold, IsToldAt, IsToldOf, TellsBlock, TellsBlocks}
+use Rattle.cond_flow.specs.Telling.{IsToldAt, IsToldOf, Teller, TellsBlock, TellsBlocks, TellsHanded, TellsStates}
 use Rattle.cond_flow.specs.Passing.{first_known, passed_along}
 use Rattle.cond_flow.specs.Becoming.{becomes_at, nodes_become}
 use Rattle.cond_flow.specs.BecomingLaws.{become_get, length_become}
@@ -71,35 +72,35 @@ module _ {K : Type 0} (rules : Rules K) (along : Along K) (nodes : List Node) (l
   }
 
 -- what is told of the next node
-module _ {K : Type 0} {A : Type 0} (along : Along K) (nodes : List Node) (list : List ℕ) (s : NodeState K) (old : List (Option (Vec K A))) where
-  pub tells_more : (i n : ℕ) (t : NodeState K) (all new : List (Option (Vec K A))) → TellsBlock along nodes list s i old all → slice_get list i ≡ Some n → t ≡ through_nodes along nodes (take i list) s → n < length all → IsToldOf n t all new → TellsBlock along nodes list s (i + 1) old new
+module _ {K : Type 0} {B : Type 0} (Tells : Teller K B) (along : Along K) (nodes : List Node) (list : List ℕ) (s : NodeState K) (old : List B) where
+  pub tells_more : (i n : ℕ) (t : NodeState K) (all new : List B) → TellsBlock Tells along nodes list s i old all → slice_get list i ≡ Some n → t ≡ through_nodes along nodes (take i list) s → n < length all → IsToldOf Tells n t all new → TellsBlock Tells along nodes list s (i + 1) old new
   tells_more i n t all new so_far at state_is lt put = record {
     long = ap length put.2 ∙ length-set all n put.0 ∙ so_far.long;
-    tells = λ states are m known. elim (cases_eq m n) as (λ _. IsToldAt states new m) [
+    tells = λ states are m known. elim (cases_eq m n) as (λ _. IsToldAt Tells states new m) [
       | inl same ↦ λ told there.
           let its_state : t ≡ states m = state_is ∙ sym (are i n at) ∙ ap states (sym same) in
           let here : slice_get new m ≡ Some put.0 = ap (slice_get new) same ∙ ap (λ l. slice_get l n) put.2 ∙ set_here all n put.0 lt in
-          subst (IsTold (states m)) (same_Some put.0 told (sym here ∙ there)) (subst (λ x. IsTold x put.0) its_state put.1)
+          subst (Tells m (states m)) (same_Some put.0 told (sym here ∙ there)) (subst (λ k. Tells k (states m) put.0) (sym same) (subst (λ x. Tells n x put.0) its_state put.1))
       | inr apart ↦ λ told there.
           so_far.tells states are m (earlier states m apart known) told (sym (ap (λ l. slice_get l m) put.2 ∙ set_elsewhere all n m put.0 apart) ∙ there)
     ];
   }
     where
-      earlier : (states : ℕ → NodeState K) (m : ℕ) → (m ≡ n → ⊥) → IsToldAt states old m ⊎ IsAmong list (i + 1) m → IsToldAt states old m ⊎ IsAmong list i m
+      earlier : (states : ℕ → NodeState K) (m : ℕ) → (m ≡ n → ⊥) → IsToldAt Tells states old m ⊎ IsAmong list (i + 1) m → IsToldAt Tells states old m ⊎ IsAmong list i m
       earlier states m apart (inl before) = inl before
-      earlier states m apart (inr among) = elim (cases_eq among.0 i) as (λ _. IsToldAt states old m ⊎ IsAmong list i m) [
+      earlier states m apart (inr among) = elim (cases_eq among.0 i) as (λ _. IsToldAt Tells states old m ⊎ IsAmong list i m) [
         | inl e ↦ absurd (apart (same_Some m n (sym among.2 ∙ ap (slice_get list) e ∙ at)))
         | inr d ↦ let lt : among.0 < i + 1 = among.1 in inr (among.0, omega (arith, lt, d), among.2)
       ]
 
-module _ {K : Type 0} (along : Along K) (nodes : List Node) (lists : List (List ℕ)) (values : List (NodeState K)) where
+module _ {K : Type 0} {B : Type 0} (Tells : Teller K B) (along : Along K) (nodes : List Node) (lists : List (List ℕ)) (values : List (NodeState K)) where
   -- the next block of which is told
-  pub tell_blocks_more : {A : Type 0} (b : ℕ) (list : List ℕ) (s : NodeState K) (all new : List (Option (Vec K A))) → TellsBlocks along nodes lists values b all → slice_get lists b ≡ Some list → s ≡ value_of values b → TellsBlock along nodes list s (length list) all new → TellsBlocks along nodes lists values (b + 1) new
+  pub tell_blocks_more : (b : ℕ) (list : List ℕ) (s : NodeState K) (all new : List B) → TellsBlocks Tells along nodes lists values b all → slice_get lists b ≡ Some list → s ≡ value_of values b → TellsBlock Tells along nodes list s (length list) all new → TellsBlocks Tells along nodes lists values (b + 1) new
   tell_blocks_more b list s all new so_far listed state_is block = record {
     long = block.long ∙ so_far.long;
     tells = λ states are c i n other lt listed' at.
         let through_block : AreThrough along nodes list s states = subst (λ x. AreThrough along nodes list x states) (sym state_is) (are b list listed) in
-        elim (cases_eq c b) as (λ _. IsToldAt states new n) [
+        elim (cases_eq c b) as (λ _. IsToldAt Tells states new n) [
           | inl same ↦
               let is_list : other ≡ list = same_Some other list (sym listed' ∙ ap (slice_get lists) same ∙ listed) in
               let at' : slice_get list i ≡ Some n = subst (λ l. slice_get l i ≡ Some n) is_list at in
@@ -139,7 +140,7 @@ module _ {K : Type 0} {below : K → K → Type 0} {rules : Rules K} (order : Or
       }
 
   -- once all blocks are told of, so are all nodes
-  pub all_told : {A : Type 0} (all : List (Option (Vec K A))) → TellsBlocks (passed_along rules graph.shared graph.received) graph.nodes blocks.lists values (length blocks.lists) all → AreKnownBefore below rules graph all
+  pub all_told : {A : Type 0} (all : List (Option (Vec K A))) → TellsBlocks TellsStates (passed_along rules graph.shared graph.received) graph.nodes blocks.lists values (length blocks.lists) all → AreKnownBefore below rules graph all
   all_told all tells = λ n known there.
       let lt : n < length graph.nodes = omega (arith, slice_get_within all n known there, tells.long) in
       let stands = are.is_net.blocks.every n lt in
@@ -149,6 +150,18 @@ module _ {K : Type 0} {below : K → K → Type 0} {rules : Rules K} (order : Or
         least = least_states;
         here = told ∙ ap (λ size. state_of_known size (option_map (λ list. list.items) known)) (least_states.are.sizes n lt ∙ length_first rules graph.shared (length graph.vars));
       }
+
+  -- and once all hand over what they do
+  pub all_handed : {A : Type 0} (all : List (Option (Vec K A))) → TellsBlocks (TellsHanded rules graph) (passed_along rules graph.shared graph.received) graph.nodes blocks.lists values (length blocks.lists) all → AreHanded below rules graph all
+  all_handed {A = A} all tells = record {
+    states = states;
+    least = least_states;
+    long = tells.long;
+    each = λ n node here.
+        let lt : n < length graph.nodes = slice_get_within graph.nodes n node here in
+        let stands = are.is_net.blocks.every n lt in
+        λ told there. tells.tells states all_through stands.0 stands.1.place n stands.1.list (slice_get_within blocks.lists stands.0 stands.1.list stands.1.listed) stands.1.listed stands.1.is told there node here;
+  }
 
   module _ (made : List Node) (folds : RewritesBlocks rules (passed_along rules graph.shared graph.received) graph.nodes blocks.lists values (length blocks.lists) made) where
     by_place : (n : ℕ) → slice_get made n ≡ slice_get (nodes_become rules states graph.nodes) n

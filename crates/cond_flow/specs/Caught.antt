@@ -2,7 +2,7 @@
 use Rattle.std.proofs.Common.{◌≡◌, ℕ, true, false, List, refl, sym, ◌∙◌}
 use Rattle.fix_solve.specs.NewsFlows.{NewsLaws}
 use Rattle.cond_flow.specs.declared.flow.StateFlow.{StateFlow}
-use Rattle.cond_flow.specs.Catching.{AreOff, HasPassed, IsCaught}
+use Rattle.cond_flow.specs.Catching.{AreOff, IsCaught}
 use Rattle.cond_flow.specs.Flows.{IsStateFlow, net_of}
 use Rattle.cond_flow.specs.NewsShapes.{NewsShape, FitsAny, IsAllNew, IsNoneNew}
 use Rattle.cond_flow.specs.Rules.{Rules, OrderRules}

@@ -1,6 +1,7 @@
 -- What units hand over and back: what is known of it, and when it holds. Cited by contracts, and by proofs of the crates
 -- above.
-use Rattle.std.specs.Prelude.{◌≡◌, ◌≤◌, ◌<◌, ◌+◌, ℕ, ℤ, pos, List, [], ◌∷◌, ◌++◌, length, map, slice_get, slice_index_or, Option, Some, None}
+use Rattle.std.specs.Prelude.{◌≡◌, ◌≤◌, ◌<◌, ◌+◌, ℕ, ℤ, pos, List, [], ◌∷◌, ◌++◌, length, map, slice_get, slice_index_or, Option, Some, None, Vec}
+use Rattle.std.specs.Option.{option_map}
 use Rattle.mir_base.specs.declared.instructions.Operand.{Operand}
 use Rattle.mir_base.specs.declared.instructions.Rhs.TheVariants.{Plain}
 use Rattle.mir_base.specs.Frames.{Answer, CallEntry, Frame, Transition, Continues, Prints, Calls, Returns, Traps, Values, resumed, shared_vars}
@@ -41,13 +42,14 @@ handed_at rules shared node (Unreached size) = None
 handed_at rules shared node (Knows known) = handed_by rules shared node known
 
 -- this is known of what each node of a graph hands over or back, by the least states
-pub record AreHanded {K : Type 0} (below : K → K → Type 0) (rules : Rules K) (graph : GraphShape)
-    (all : List (Option (List K))) : Type 0 where
+pub record AreHanded {K : Type 0} {A : Type 0} (below : K → K → Type 0) (rules : Rules K)
+    (graph : GraphShape) (all : List (Option (Vec K A))) : Type 0 where
   pub states : ℕ → NodeState K
   pub least : HasLeastStates below rules graph states
   pub long : length all ≡ length graph.nodes
   pub each : (n : ℕ) (node : Node) → slice_get graph.nodes n ≡ Some node
-      → slice_get all n ≡ Some (handed_at rules graph.shared node (states n))
+      → (told : Option (Vec K A)) → slice_get all n ≡ Some told
+      → option_map (λ list. list.items) told ≡ handed_at rules graph.shared node (states n)
 
 -- ---- when it holds
 

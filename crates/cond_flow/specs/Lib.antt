@@ -11,9 +11,9 @@ pub mod Solutions
 pub mod Rewriting
 pub mod Rewritten
 pub mod KnownBefore
-pub mod Telling
 pub mod Holding
 pub mod Handing
+pub mod Telling
 pub mod StateLaws
 pub mod PassingLaws
 pub mod FlowLaws

@@ -4,7 +4,7 @@ use Rattle.std.proofs.Common.{◌≡◌, ℕ, zero, suc, ◌+◌, ◌-◌, Bool,
 use Rattle.std.proofs.lemmas.Bool.{ne_eqb}
 use Rattle.std.proofs.lemmas.List.{length-replicate}
 use Rattle.std.specs.List.{range_with_len}
-use Rattle.fix_solve.specs.Pointwise.{Pointwise, pointwise_length, pointwise_refl}
+use Rattle.fix_solve.specs.Pointwise.{Pointwise, pointwise_length}
 use Rattle.mir_base.specs.Frames.{shared_vars}
 use Rattle.flow_graph.specs.Graphs.{node_succs}
 use Rattle.flow_graph.specs.declared.nodes.Node.{Node}

@@ -1,6 +1,6 @@
 -- What happens to the lists of what is known and to the news where lists are joined. Cited by contracts of private
 -- functions.
-use Rattle.std.specs.Prelude.{◌≡◌, ℕ, ◌<◌, Bool, true, false, List, length, slice_get, Some}
+use Rattle.std.specs.Prelude.{◌≡◌, ℕ, ◌<◌, true, false, List, length, slice_get, Some}
 use Rattle.fix_solve.specs.Pointwise.{Pointwise}
 use Rattle.cond_flow.specs.NewsShapes.{NewsShape, is_among}
 use Rattle.cond_flow.specs.Rules.{Rules, known_at}

@@ -1,5 +1,5 @@
 -- Rules keep their laws whatever is known outside. For proofs only.
-use Rattle.std.proofs.Common.{◌≡◌, ℕ, ℤ, List, [], sym, ap, ◌∙◌}
+use Rattle.std.proofs.Common.{◌≡◌, ℤ, List, [], sym, ap, ◌∙◌}
 use Rattle.mir_base.specs.declared.instructions.Operand.{Operand}
 use Rattle.mir_base.specs.declared.instructions.Operand.TheVariants.{Var, Const}
 use Rattle.mir_base.specs.declared.instructions.Rhs.{Rhs}

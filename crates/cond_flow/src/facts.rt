@@ -80,6 +80,17 @@ impl<K: Coded> Facts<K> {
         })
     }
 
+    /// These, with what is known of any variable. It fails only with `Memory`.
+    pub fn of_list(alloc: Global, list: &[K], otherwise: K) -> Result<Facts<K>, Memory>
+        ensures { IfOk result (λ facts. facts ≡ list.now) }
+    {
+        let mut facts = Facts::repeated(alloc, list.len(), otherwise)?;
+        for x in 0..list.len() {
+            facts.set(x, list[x]);
+        }
+        Ok(facts)
+    }
+
     /// A copy. It fails only with `Memory`.
     pub(crate) fn copied(&self, alloc: Global) -> Result<Facts<K>, Memory>
         ensures { IfOk result (λ copy. copy ≡ self.now) }
@@ -147,7 +158,7 @@ impl<K: Coded> Facts<K> {
     }
 
     /// Takes what is known elsewhere in the place of what was known. It does not allocate.
-    pub(crate) fn refill(&mut self, from: &Facts<K>)
+    pub fn refill(&mut self, from: &Facts<K>)
         requires { length self.old ≡ length from.now }
         ensures { self.new ≡ from.now }
     {
@@ -163,7 +174,7 @@ impl<K: Coded> Facts<K> {
 impl<K: Knowledge> Facts<K> {
     /// Turns what is known into what is known where two paths meet, and answers whether it changed. It does not
     /// allocate.
-    pub(crate) fn join_from(&mut self, other: &Facts<K>) -> bool
+    pub fn join_from(&mut self, other: &Facts<K>) -> bool
         requires { length other.now ≡ length self.old }
         ensures joined { self.new ≡ joined_each K.rules.joined self.old other.now }
         ensures unchanged { (result ≡ false) ↔ (self.new ≡ self.old) }

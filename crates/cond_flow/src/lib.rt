@@ -10,6 +10,7 @@
 
 mod facts;
 mod flow;
+mod handing;
 mod knowledge;
 mod least_states;
 mod news;
@@ -22,6 +23,7 @@ mod telling;
 mod transfer;
 
 pub use facts::{Coded, Facts};
+pub use handing::handed;
 pub use knowledge::Knowledge;
 pub use least_states::{LeastStates, states_hold};
 pub use outside::Outside;

@@ -5,7 +5,7 @@ ghost use Rattle.cond_flow.specs.Blockwise.{AreLeastOver};
 ghost use Rattle.cond_flow.specs.KnownBefore.{AreKnownBefore};
 ghost use Rattle.cond_flow.specs.Outsides.{rules_in};
 ghost use Rattle.cond_flow.specs.States.{state_where};
-ghost use Rattle.cond_flow.specs.Telling.{IsTold, IsToldOf, TellsIn};
+ghost use Rattle.cond_flow.specs.Telling.{IsTold, IsToldOf, TellsIn, TellsStates};
 
 use crate::states::BlockState;
 use crate::transfer::step;
@@ -47,7 +47,10 @@ pub(crate) fn tell_blocks<K: Knowledge>(
 }
 
 /// So many nodes of which nothing is told yet.
-fn nothing<K: Knowledge>(alloc: Global, count: usize) -> Result<Vec<Option<Vec<K>>>, Memory>
+pub(crate) fn nothing<K: Knowledge>(
+    alloc: Global,
+    count: usize,
+) -> Result<Vec<Option<Vec<K>>>, Memory>
     ensures { IfOk result (λ all. length all.items ≡ count) }
 {
     let mut all = Vec::with_capacity(alloc, count)?;
@@ -72,15 +75,7 @@ fn tell_block<K: Knowledge>(
         all.old.items all.new.items) }
 {
     let mut known = state.known.copied(alloc)?;
-    tell_list(
-        alloc,
-        graph,
-        list,
-        state.reached,
-        &mut known,
-        outside,
-        all,
-    )?;
+    tell_list(alloc, graph, list, state.reached, &mut known, outside, all)?;
     Ok(())
 }
 
@@ -127,7 +122,7 @@ fn put<K: Knowledge>(
     known: &Facts<K>,
 ) -> Result<(), Memory>
     requires { n < length all.old.items }
-    ensures { OnOk result (IsToldOf n (state_where reached known.now) all.old.items
+    ensures { OnOk result (IsToldOf TellsStates n (state_where reached known.now) all.old.items
         all.new.items) }
 {
     let told = told(alloc, reached, known)?;

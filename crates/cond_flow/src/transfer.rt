@@ -134,12 +134,7 @@ fn called<K: Knowledge>(
 }
 
 /// Takes over what is known of the globals that a unit hands back.
-fn take_back<K: Knowledge>(
-    known: &mut Facts<K>,
-    shared: usize,
-    unit: usize,
-    outside: &Outside<K>,
-)
+fn take_back<K: Knowledge>(known: &mut Facts<K>, shared: usize, unit: usize, outside: &Outside<K>)
     ensures { known.new
         ≡ all_set (known_at K.rules (back_at (rules_in outside.now K.rules) unit)) 0
         (shared_vars shared) known.old }
@@ -150,11 +145,7 @@ fn take_back<K: Knowledge>(
 }
 
 /// Takes over what is known of the globals where the unit is entered.
-pub(crate) fn enter_globals<K: Knowledge>(
-    known: &mut Facts<K>,
-    shared: usize,
-    outside: &Outside<K>,
-)
+pub(crate) fn enter_globals<K: Knowledge>(known: &mut Facts<K>, shared: usize, outside: &Outside<K>)
     ensures { known.new
         ≡ all_set (known_at K.rules (outside_of outside.now).entry) 0 (shared_vars shared)
         known.old }

@@ -1,6 +1,5 @@
-use Rattle.std.proofs.Common.{◌≡◌, ◌<◌, ◌≤◌, length, pos, refl, sym, ap, ◌∙◌, arith}
+use Rattle.std.proofs.Common.{pos, refl, sym, ◌∙◌, arith}
 use Rattle.cond_flow.specs.FactLists.{decoded_each}
-use Rattle.cond_flow.specs.Rules.{known_at}
 use Rattle.cond_flow.proofs.FactLaws.{facts_at, length_facts}
 use Rattle.cond_flow.proofs.RaisingLaws.{keeps_more, keeps_none, raise_absent, raise_joined, stays_where, tells_joined}
 use Rattle.cond_flow.proofs.facts.raise_at.Goals as goal

@@ -1,4 +1,4 @@
-use Rattle.std.proofs.Common.{◌≡◌, ◌<◌, ◌≤◌, ◌+◌, ◌||◌, length, refl, subst, sym, ◌∙◌, slice_get, Some, slice_index_or, arith}
+use Rattle.std.proofs.Common.{◌≡◌, length, refl, subst, ◌∙◌, slice_get, Some, slice_index_or, arith}
 use Rattle.std.proofs.lemmas.Option.{slice_get-get_or}
 use Rattle.cond_flow.specs.FactLists.{decoded_each}
 use Rattle.cond_flow.specs.Raising.{IsRaisedTo}

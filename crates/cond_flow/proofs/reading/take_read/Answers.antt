@@ -1,4 +1,4 @@
-use Rattle.std.proofs.Common.{inl, inr, ◌<◌, ◌≡◌, ◌∙◌, length, sym, ap, subst, slice_get, Some, slice_index_or, arith}
+use Rattle.std.proofs.Common.{inl, inr, ◌≡◌, ◌∙◌, length, sym, ap, subst, slice_get, slice_index_or, arith}
 use Rattle.std.proofs.lemmas.Bool.{cases_lt}
 use Rattle.std.proofs.lemmas.Option.{get_or_from_slice_get, slice_get_within}
 use Rattle.cond_flow.specs.Reading.{AgreeOnNode, taken_node}

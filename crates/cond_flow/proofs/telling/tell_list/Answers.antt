@@ -2,7 +2,7 @@ use Rattle.std.proofs.Common.{◌≡◌, ◌+◌, ◌<◌, length, subst, arith}
 use Rattle.std.proofs.lemmas.Option.{slice_get-get_or}
 use Rattle.cond_flow.specs.States.{state_where}
 use Rattle.cond_flow.specs.Passing.{passed_along}
-use Rattle.cond_flow.specs.Telling.{TellsIn}
+use Rattle.cond_flow.specs.Telling.{TellsIn, TellsStates}
 use Rattle.cond_flow.proofs.Rewrites.{tells_more}
 use Rattle.cond_flow.proofs.Steps.{chain_at, passed_on}
 use Rattle.cond_flow.specs.Outsides.{rules_in}
@@ -31,7 +31,7 @@ loop-i-preserved g c =
       passes = passed_on along graph.nodes list c.loop-i.i (c.loop-i.i + 1) c.node-node.result.now first before after lt (omega arith) c.node-node.ensures c.loop-i.invariant.passes
           (subst (λ l. after ≡ passed_along r graph.shared l c.node-node.result.now 0 before) c.received.ensures
           (subst (λ n. after ≡ passed_along r n c.received.result.now c.node-node.result.now 0 before) c.shared.ensures.value c.step-reaches.ensures));
-      tells = tells_more along graph.nodes list first c.args.all.now.items c.loop-i.i _ before c.loop-i.all.items c.put.new.all.items c.loop-i.invariant.tells
+      tells = tells_more TellsStates along graph.nodes list first c.args.all.now.items c.loop-i.i _ before c.loop-i.all.items c.put.new.all.items c.loop-i.invariant.tells
           (slice_get-get_or list c.loop-i.i 0 lt) c.loop-i.invariant.passes (omega (arith, low, c.loop-i.invariant.tells.long, c.requires.long)) c.in_ok-put.ensures;
     }
 

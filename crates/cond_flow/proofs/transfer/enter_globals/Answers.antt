@@ -1,7 +1,5 @@
-use Rattle.std.proofs.Common.{◌≡◌, suc, ◌+◌, ◌-◌, slice_set, sym, ap, ◌∙◌, arith}
-use Rattle.std.specs.List.{range_with_len}
+use Rattle.std.proofs.Common.{◌∙◌, arith}
 use Rattle.cond_flow.specs.Outsides.{outside_of}
-use Rattle.cond_flow.specs.Passing.{all_set}
 use Rattle.cond_flow.specs.Rules.{known_at}
 use Rattle.cond_flow.proofs.TransferLaws.{set_on}
 use Rattle.cond_flow.proofs.transfer.enter_globals.Goals as goal

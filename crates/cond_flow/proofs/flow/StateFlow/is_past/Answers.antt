@@ -1,6 +1,5 @@
-use Rattle.std.proofs.Common.{◌≡◌, ◌∙◌, ◌/◌, [], true, ap, sym, subst}
+use Rattle.std.proofs.Common.{◌/◌, [], sym, subst}
 use Rattle.std.proofs.lemmas.Option.{get_or_from_slice_get}
-use Rattle.cond_flow.specs.Blockwise.{block_at}
 use Rattle.cond_flow.specs.Reading.{AreApart}
 use Rattle.cond_flow.proofs.flow.StateFlow.is_past.Goals as goal
 

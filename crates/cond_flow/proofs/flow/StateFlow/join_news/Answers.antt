@@ -1,4 +1,4 @@
-use Rattle.std.proofs.Common.{◌≡◌, ◌/◌, ◌%◌, sym, subst}
+use Rattle.std.proofs.Common.{◌/◌, ◌%◌, sym, subst}
 use Rattle.cond_flow.specs.Blockwise.{block_at, out_of}
 use Rattle.cond_flow.specs.Catching.{HasPassed}
 use Rattle.cond_flow.specs.Passing.{passed_along}

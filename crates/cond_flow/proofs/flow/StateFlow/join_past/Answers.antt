@@ -1,4 +1,4 @@
-use Rattle.std.proofs.Common.{◌≡◌, ◌∙◌, ◌/◌, ◌%◌, refl, sym}
+use Rattle.std.proofs.Common.{◌∙◌, ◌/◌, ◌%◌, refl, sym}
 use Rattle.cond_flow.specs.Blockwise.{block_at}
 use Rattle.cond_flow.proofs.PushLaws.{past_joins}
 use Rattle.cond_flow.proofs.RaisingLaws.{keeps_none}

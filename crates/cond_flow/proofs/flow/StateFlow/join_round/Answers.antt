@@ -1,4 +1,4 @@
-use Rattle.std.proofs.Common.{◌≡◌, ◌∙◌, ◌/◌, ◌%◌, true, length, refl, sym, subst}
+use Rattle.std.proofs.Common.{◌≡◌, ◌∙◌, ◌/◌, ◌%◌, true, length, refl, sym}
 use Rattle.cond_flow.specs.Blockwise.{block_at}
 use Rattle.cond_flow.specs.PassingLaws.{passing_within}
 use Rattle.cond_flow.specs.States.{Knows, state_where}

@@ -4,7 +4,7 @@ use Rattle.flow_graph.specs.BlockLaws.{chain_some}
 use Rattle.cond_flow.specs.Blockwise.{out_of}
 use Rattle.cond_flow.specs.Passing.{passed_along}
 use Rattle.cond_flow.specs.PassingLaws.{passing_within}
-use Rattle.cond_flow.specs.States.{Knows, is_reached, state_where}
+use Rattle.cond_flow.specs.States.{Knows, is_reached}
 use Rattle.cond_flow.proofs.JoinCases.{leaves_long, out_none}
 use Rattle.cond_flow.proofs.PushLaws.{passes_by_read}
 use Rattle.cond_flow.proofs.Steps.{chain_at}

@@ -1,4 +1,4 @@
-use Rattle.std.proofs.Common.{◌≡◌, ◌↔◌, ◌∙◌, false, length, sym, ap, subst}
+use Rattle.std.proofs.Common.{◌≡◌, ◌↔◌, ◌∙◌, false, sym, ap, subst}
 use Rattle.cond_flow.specs.Flows.{net_of}
 use Rattle.cond_flow.specs.States.{state_where}
 use Rattle.cond_flow.proofs.JoinCases.{kept_long, known_is, known_same}

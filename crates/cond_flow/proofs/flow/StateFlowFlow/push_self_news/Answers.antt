@@ -1,7 +1,7 @@
-use Rattle.std.proofs.Common.{◌≡◌, ◌↔◌, ◌∙◌, false, length, sym, ap, subst}
+use Rattle.std.proofs.Common.{◌≡◌, ◌↔◌, ◌∙◌, false, sym, ap, subst}
 use Rattle.cond_flow.specs.Flows.{net_of}
 use Rattle.cond_flow.specs.States.{state_where}
-use Rattle.cond_flow.proofs.JoinCases.{kept_long, known_is, known_same}
+use Rattle.cond_flow.proofs.JoinCases.{known_is, known_same}
 use Rattle.cond_flow.proofs.PushLaws.{caught_known, joins_known}
 use Rattle.cond_flow.proofs.RaisingLaws.{keeps_renewed, keeps_where}
 use Rattle.cond_flow.proofs.flow.StateFlowFlow.push_self_news.Goals as goal
