@@ -1,9 +1,16 @@
 -- What is known of variables, as it is kept in two lists, place by place.
-use Rattle.std.proofs.Common.{◌≡◌, ℕ, ℤ, zero, suc, ◌+◌, ◌<◌, ◌≤◌, slice_set, List, [], ◌∷◌, ◌++◌, length, take, replicate, get_or, refl, sym, ap, arith, ◌∙◌, ⊎_elim, take_all}
+use Rattle.std.proofs.Common.{pos, ◌≡◌, ℕ, ℤ, zero, suc, ◌+◌, ◌<◌, ◌≤◌, slice_set, List, [], ◌∷◌, ◌++◌, length, take, replicate, get_or, refl, sym, ap, arith, ◌∙◌, ⊎_elim, take_all}
 use Rattle.std.specs.List.{AllClonesOf, AppendsClonesOf}
 use Rattle.std.proofs.lemmas.Option.{slice_get-get_or}
 use Rattle.flow_graph.specs.ListLaws.{take_next}
 use Rattle.cond_flow.specs.FactLists.{decoded_each}
+use Rattle.cond_flow.specs.Rules.{OrderRules, Rules}
+
+-- where a path meets itself nothing is lost
+pub joined_self : {K : Type 0} {below : K → K → Type 0} {rules : Rules K} → OrderRules below rules → (x : K) → rules.joined x x ≡ x
+joined_self order x =
+    let meets = order.joins x x in
+    order.antisymmetric _ x (meets.least x (order.reflexive x) (order.reflexive x)) meets.left
 
 module _ {K : Type 0} (decoded : ℕ → ℤ → K) where
   -- as many are known as there are numbers
@@ -18,6 +25,11 @@ module _ {K : Type 0} (decoded : ℕ → ℤ → K) where
   facts_at (k ∷ kinds) [] x d v o e h = absurd (omega (arith, e))
   facts_at (k ∷ kinds) (n ∷ numbers) zero d v o e h = refl
   facts_at (k ∷ kinds) (n ∷ numbers) (suc x) d v o e h = facts_at kinds numbers x d v o (let e' : suc (length numbers) ≡ suc (length kinds) = e in omega arith) (let h' : suc x < suc (length kinds) = h in omega arith)
+
+  -- where the code is this one, what it stands for is known
+  pub facts_same : (kinds : List ℕ) (numbers : List ℤ) (x k : ℕ) (n : ℤ) (otherwise : K) → length numbers ≡ length kinds → x < length kinds → get_or kinds x 0 ≡ k → get_or numbers x (pos 0) ≡ n → otherwise ≡ decoded k n → get_or (decoded_each decoded kinds numbers) x otherwise ≡ otherwise
+  facts_same kinds numbers x k n o long there is_k is_n code =
+      facts_at kinds numbers x 0 (pos 0) o long there ∙ ap (λ z. decoded z (get_or numbers x (pos 0))) is_k ∙ ap (decoded k) is_n ∙ sym code
 
   -- nothing is known past the last
   pub facts_past : (kinds : List ℕ) (numbers : List ℤ) (x : ℕ) (otherwise : K) → length numbers ≡ length kinds → length kinds ≤ x → get_or (decoded_each decoded kinds numbers) x otherwise ≡ otherwise

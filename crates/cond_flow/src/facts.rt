@@ -299,7 +299,7 @@ fn join_lists<K: Knowledge>(
     let mut changed = false;
     for i in 0..kinds.len() {
         let other = K::of_code(other_kinds[i], &other_numbers[i]);
-        changed = changed | join_at(kinds, numbers, i, other);
+        changed = changed | join_at(kinds, numbers, i, other, other_kinds[i], other_numbers[i]);
     }
     changed
 }
@@ -328,7 +328,16 @@ fn join_noted<K: Knowledge>(
     let mut changed = false;
     for i in 0..kinds.len() {
         let other = K::of_code(other_kinds[i], &other_numbers[i]);
-        changed = changed | join_one(kinds, numbers, i, other, news);
+        changed = changed
+            | join_one(
+                kinds,
+                numbers,
+                i,
+                other,
+                other_kinds[i],
+                other_numbers[i],
+                news,
+            );
     }
     changed
 }
@@ -389,22 +398,33 @@ fn raise_at<K: Knowledge>(
 {
     if x < kinds.len() {
         let other = K::of_code(other_kinds[x], &other_numbers[x]);
-        join_one(kinds, numbers, x, other, news)
+        join_one(
+            kinds,
+            numbers,
+            x,
+            other,
+            other_kinds[x],
+            other_numbers[x],
+            news,
+        )
     } else {
         false
     }
 }
 
-/// Joins what is known of one variable, and puts it among the news if it was raised.
+/// Joins what is known of one variable, with its code, and puts it among the news if it was raised.
 fn join_one<K: Knowledge>(
     kinds: &mut [u8],
     numbers: &mut [i64],
     i: usize,
     other: K,
+    kind: u8,
+    number: i64,
     news: &mut StateNews,
 ) -> bool
     requires there { i < length kinds.old }
     requires long { length numbers.old ≡ length kinds.old }
+    requires code { other ≡ K.decoded kind number }
     ensures long { length kinds.new ≡ length kinds.old }
     ensures numbers_long { length numbers.new ≡ length numbers.old }
     ensures joined { decoded_each K.decoded kinds.new numbers.new
@@ -416,17 +436,26 @@ fn join_one<K: Knowledge>(
         other ≡ slice_index_or (decoded_each K.decoded kinds.old numbers.old) i other) }
     ensures noted { IsNotedIf result i news.old news.new }
 {
-    let raised = join_at(kinds, numbers, i, other);
+    let raised = join_at(kinds, numbers, i, other, kind, number);
     if raised {
         news.note(i);
     }
     raised
 }
 
-/// Turns what is known of one variable into what is known where two paths meet, and answers whether that changed.
-fn join_at<K: Knowledge>(kinds: &mut [u8], numbers: &mut [i64], i: usize, other: K) -> bool
+/// Turns what is known of one variable into what is known where two paths meet, and answers whether that changed. Where
+/// the codes are the same it did not.
+fn join_at<K: Knowledge>(
+    kinds: &mut [u8],
+    numbers: &mut [i64],
+    i: usize,
+    other: K,
+    kind: u8,
+    number: i64,
+) -> bool
     requires there { i < length kinds.old }
     requires long { length numbers.old ≡ length kinds.old }
+    requires code { other ≡ K.decoded kind number }
     ensures long { length kinds.new ≡ length kinds.old }
     ensures numbers_long { length numbers.new ≡ length numbers.old }
     ensures joined { decoded_each K.decoded kinds.new numbers.new
@@ -437,6 +466,9 @@ fn join_at<K: Knowledge>(kinds: &mut [u8], numbers: &mut [i64], i: usize, other:
         ↔ (K.rules.joined (slice_index_or (decoded_each K.decoded kinds.old numbers.old) i other)
         other ≡ slice_index_or (decoded_each K.decoded kinds.old numbers.old) i other) }
 {
+    if kinds[i] == kind && is_number(&numbers[i], number) {
+        return false;
+    }
     let before = K::of_code(kinds[i], &numbers[i]);
     let after = before.joined(other);
     if after.is_same(before) {
@@ -445,4 +477,11 @@ fn join_at<K: Knowledge>(kinds: &mut [u8], numbers: &mut [i64], i: usize, other:
         put_code(kinds, numbers, i, after.kind(), after.number());
         true
     }
+}
+
+/// Whether a number is this one.
+fn is_number(there: &i64, number: i64) -> bool
+    ensures { result ≡ true → there.now ≡ number }
+{
+    *there == number
 }

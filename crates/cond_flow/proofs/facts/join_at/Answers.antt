@@ -1,7 +1,7 @@
 use Rattle.std.proofs.Common.{◌≡◌, ◌∙◌, true, false, pos, refl, sym, ap, slice_index_or, slice_set, to_z-of_z, w64}
 use Rattle.std.proofs.lemmas.List.{set-get_or}
 use Rattle.cond_flow.specs.FactLists.{decoded_each}
-use Rattle.cond_flow.proofs.FactLaws.{facts_at, facts_set}
+use Rattle.cond_flow.proofs.FactLaws.{facts_at, facts_same, facts_set, joined_self}
 use Rattle.cond_flow.proofs.facts.join_at.Goals as goal
 use Rattle.cond_flow.proofs.facts.join_at.Goals.{After-is_same}
 use Rattle.cond_flow.proofs.facts.join_at.Given.{Over}
@@ -14,6 +14,18 @@ before_is g c =
 -- and where the paths meet
 after_is : (g : Over) (c : After-is_same g) → c.joined-after.result ≡ g.K.Knowledge.rules.joined (slice_index_or (decoded_each g.K.Coded.decoded c.args.kinds.now c.args.numbers.now) c.args.i c.args.other) c.args.other
 after_is g c = c.joined-after.ensures ∙ ap (λ k. g.K.Knowledge.rules.joined k c.args.other) (before_is g c)
+
+pub returns-then-is_number-clause-joined : goal.returns-then-is_number-clause-joined
+returns-then-is_number-clause-joined g c =
+    let zs = decoded_each g.K.Coded.decoded c.args.kinds.now c.args.numbers.now in
+    let same = facts_same g.K.Coded.decoded c.args.kinds.now c.args.numbers.now c.args.i c.args.kind c.args.number c.args.other c.requires.long c.requires.there c.if-kinds-i.true (c.is_number.ensures c.if-is_number.true ∙ to_z-of_z {w = w64} c.ranges.number) c.requires.code in
+    sym (set-get_or zs c.args.i c.args.other)
+    ∙ ap (slice_set zs c.args.i) (same ∙ sym (joined_self g.met.K.Knowledge.laws.order c.args.other) ∙ ap (λ k. g.K.Knowledge.rules.joined k c.args.other) (sym same))
+
+pub returns-then-is_number-clause-unchanged : goal.returns-then-is_number-clause-unchanged
+returns-then-is_number-clause-unchanged g c =
+    let same = facts_same g.K.Coded.decoded c.args.kinds.now c.args.numbers.now c.args.i c.args.kind c.args.number c.args.other c.requires.long c.requires.there c.if-kinds-i.true (c.is_number.ensures c.if-is_number.true ∙ to_z-of_z {w = w64} c.ranges.number) c.requires.code in
+    (λ _. ap (λ k. g.K.Knowledge.rules.joined k c.args.other) same ∙ joined_self g.met.K.Knowledge.laws.order c.args.other ∙ sym same, λ _. refl)
 
 pub returns-then-is_same-clause-joined : goal.returns-then-is_same-clause-joined
 returns-then-is_same-clause-joined g c =
