@@ -1,8 +1,8 @@
 // Calls of `tables` over devices in memory.
-use crate::examples::{EXAMPLES, SMALLEST_TABLES};
-use crate::tables;
-use crate::word_examples::{BOUNDS, DEMANDED, DIVISIONS, JOINS, TAILS, WANTED};
+use crate::tests::examples::{EXAMPLES, SMALLEST_TABLES};
+use crate::tests::word_examples::{BOUNDS, DEMANDED, DIVISIONS, JOINS, TAILS, WANTED};
 use mir_outside::{MemSink, MemSource};
+use mir_table::tables;
 use std::alloc::{AllocError, Global};
 use std::test::Fail;
 
