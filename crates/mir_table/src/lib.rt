@@ -11,14 +11,8 @@
 
 mod call;
 mod complaint;
-#[cfg(test)]
-mod examples;
 mod further;
 mod kinds;
-#[cfg(test)]
-mod tests;
-#[cfg(test)]
-mod word_examples;
 
 pub use call::tables;
 pub use kinds::TableKind;

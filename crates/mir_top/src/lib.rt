@@ -11,39 +11,19 @@
 
 mod call;
 mod cause;
-#[cfg(test)]
-mod chain_examples;
 mod command;
 mod complaint;
-#[cfg(test)]
-mod devices;
 mod dividing;
 mod ending;
-#[cfg(test)]
-mod examples;
 mod faultless;
-#[cfg(test)]
-mod hostile;
 mod laws;
 mod making;
-#[cfg(test)]
-mod motion_examples;
 mod outcome;
 mod pass_words;
 mod ranges;
-#[cfg(test)]
-mod refusals;
 mod reply;
 mod report_text;
-#[cfg(test)]
-mod run_examples;
-#[cfg(test)]
-mod shared_examples;
-#[cfg(test)]
-mod stage_examples;
 mod stages;
-#[cfg(test)]
-mod tests;
 mod trial;
 mod work;
 

@@ -8,16 +8,23 @@ use std::test::Fail;
 /// What a refusal left can be read by another call.
 #[test]
 fn reads_on_after_a_refusal(rt: HostRuntime) -> Result<(), Fail> {
-    let mut source = source(rt.alloc())?;
+    assert!(rt; reads_on(rt.alloc())?);
+    Ok(())
+}
+
+/// Whether each of three calls answers what it is to answer.
+fn reads_on(alloc: Global) -> Result<bool, AllocError> {
+    let mut source = source(alloc)?;
+    let mut right = true;
     let calls: [Result<&[u8], ReadFault>; 3] = [
         Err(ReadFault::Failed),
         Err(ReadFault::TooLong),
         Ok(b"g"),
     ];
     for wanted in calls {
-        assert!(rt; reads(rt.alloc(), &mut source, wanted));
+        right &= reads(alloc, &mut source, wanted);
     }
-    Ok(())
+    Ok(right)
 }
 
 /// A source that gives two bytes a call, and fails at the second call.
@@ -38,7 +45,14 @@ fn reads(alloc: Global, source: &mut MemSource, wanted: Result<&[u8], ReadFault>
 /// A sink in memory takes pieces until it fails or is full.
 #[test]
 fn writes_until_it_fails_or_is_full(rt: HostRuntime) -> Result<(), Fail> {
-    let mut sink = sink(rt.alloc())?;
+    assert!(rt; writes_on(rt.alloc())?);
+    Ok(())
+}
+
+/// Whether each of four calls answers what it is to answer, and leaves what it is to leave.
+fn writes_on(alloc: Global) -> Result<bool, AllocError> {
+    let mut sink = sink(alloc)?;
+    let mut right = true;
     let calls = [
         (b"hello".as_slice(), Err(Failed), b"he".as_slice()),
         (b"llo".as_slice(), Ok(()), b"hello".as_slice()),
@@ -46,10 +60,9 @@ fn writes_until_it_fails_or_is_full(rt: HostRuntime) -> Result<(), Fail> {
         (b"".as_slice(), Ok(()), b"hellowor".as_slice()),
     ];
     for (piece, answer, written) in calls {
-        let is = write_all(&mut sink, piece) == answer && sink.written() == written;
-        assert!(rt; is);
+        right &= write_all(&mut sink, piece) == answer && sink.written() == written;
     }
-    Ok(())
+    Ok(right)
 }
 
 /// A sink that takes a byte a call and eight in all, and fails at the third call.

@@ -1,6 +1,6 @@
 // Calls of `top` over devices in memory, which fail where they are told to.
-use crate::top;
 use mir_outside::{MemSink, MemSource, Sink, Source};
+use mir_top::top;
 use std::alloc::{AllocError, Global};
 
 /// The smallest program, and the output for it.

@@ -1,4 +1,4 @@
-// Worked examples of turns of all passes and of chains of passes, byte for byte. `tests.rt` says how an example is
+// Worked examples of turns of all passes and of chains of passes, byte for byte. `worked.rt` says how an example is
 // written.
 
 pub const CHAIN_EXAMPLES: &str = "\

@@ -1,15 +1,15 @@
 // Broken texts, odd graphs and devices that fail: one table of calls, and what each of them leaves.
-use crate::devices::{
+use crate::tests::devices::{
     Devices, NO_FAULT, SMALLEST, SMALLEST_OUTPUT, Seen, call, owned, repeated, sink, source,
     status_of,
 };
-use crate::faultless_top;
-use crate::hostile::Given::{
+use crate::tests::hostile::Given::{
     Bytes, Faultless, Front, InterruptedRead, InterruptedWrite, Lines, Name, Reads, Text, Units,
     Writes,
 };
-use crate::hostile::Left::{All, Bad, Line, Output, Part, Refused, Same};
+use crate::tests::hostile::Left::{All, Bad, Line, Output, Part, Refused, Same};
 use mir_outside::{FaultlessSink, FaultlessSource, MemSink, StdSink, StdSource};
+use mir_top::faultless_top;
 use std::alloc::{AllocError, Global};
 use std::io;
 use std::io::{ErrorKind, Read, Write};

@@ -1,13 +1,13 @@
 // Worked examples, byte for byte, and calls whose memory runs out.
-use crate::chain_examples::CHAIN_EXAMPLES;
-use crate::devices::{NO_FAULT, Seen, call, repeated};
-use crate::examples::EXAMPLES;
-use crate::hostile::{TRIAL, TRIAL_OUTPUT};
-use crate::motion_examples::{MOTION_EXAMPLES, diamonds, moved_diamonds};
-use crate::refusals::{OTHER_WORDS, REFUSALS};
-use crate::run_examples::RUN_EXAMPLES;
-use crate::shared_examples::SHARED_EXAMPLES;
-use crate::stage_examples::{STAGE_EXAMPLES, stages_written};
+use crate::tests::chain_examples::CHAIN_EXAMPLES;
+use crate::tests::devices::{NO_FAULT, Seen, call, repeated};
+use crate::tests::examples::EXAMPLES;
+use crate::tests::hostile::{TRIAL, TRIAL_OUTPUT};
+use crate::tests::motion_examples::{MOTION_EXAMPLES, diamonds, moved_diamonds};
+use crate::tests::refusals::{OTHER_WORDS, REFUSALS};
+use crate::tests::run_examples::RUN_EXAMPLES;
+use crate::tests::shared_examples::SHARED_EXAMPLES;
+use crate::tests::stage_examples::{STAGE_EXAMPLES, stages_written};
 use std::alloc::{AllocError, Global};
 use std::process::Abort;
 use std::test::Fail;

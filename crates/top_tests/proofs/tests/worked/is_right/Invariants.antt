@@ -1,6 +1,6 @@
 use denote.Text.{Utf8}
 use denote.Shadow.{shadow}
-use Rattle.mir_top.proofs.tests.is_right.Given as goal
+use Rattle.top_tests.proofs.tests.worked.is_right.Given as goal
 
 -- what the call before wrote is text
 abbrev pub invariant-loop-case : goal.invariant-loop-case

@@ -1,4 +1,4 @@
-// Worked examples of programs that `optimise` gives another form, or leaves as they are, byte for byte. `tests.rt` says
+// Worked examples of programs that `optimise` gives another form, or leaves as they are, byte for byte. `worked.rt` says
 // how an example is written.
 
 pub const EXAMPLES: &str = "\
