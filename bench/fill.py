@@ -291,8 +291,7 @@ def words_given() -> argparse.Namespace:
 def main() -> int:
     """Fills the page."""
     given = words_given()
-    beside = Path(given.mir).resolve().parent / 'mir_tables'
-    measuring.TABLES = Path(given.tables).resolve() if given.tables else beside if beside.exists() else measuring.TABLES
+    measuring.take_tables(given.mir, given.tables)
     run.adopt_orphans()
     if given.all:
         fill_all(given)
