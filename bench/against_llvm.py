@@ -186,11 +186,12 @@ def main() -> int:
     words = argparse.ArgumentParser(description=__doc__.split('\n')[0])
     words.add_argument('--mir', default=str(TOP / 'mir'), help='the program that is compared')
     words.add_argument('--programs', type=int, default=300, help='how many programs are drawn')
-    words.add_argument('--repeat', type=int, default=5, help='of how many calls the least time is taken')
+    words.add_argument('--repeat', type=int, default=5, help='of how many calls the least time is taken; with 0 none is')
     words.add_argument('--seed', type=int, default=0, help='the number of the first program')
     given = words.parse_args()
     with tempfile.TemporaryDirectory() as made:
-        compare_times(given.mir, given.repeat, Path(made))
+        if given.repeat:
+            compare_times(given.mir, given.repeat, Path(made))
         return 1 if compare_runs(given.mir, given.programs, given.seed, Path(made)) else 0
 
 

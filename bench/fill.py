@@ -1,23 +1,34 @@
 #!/usr/bin/env python3
-"""Measures the seconds, the memory and the page faults that README.md beside this file shows, and puts them there.
+"""Measures the seconds and the memory that README.md beside this file shows, and puts them there.
 
-    bench/fill.py [--mir PATH] [--repeat N] [--show] [--counts]
-    bench/fill.py --all [--mir PATH] [--repeat N] [--csmith N] [--gcc FOLDER]
+    bench/fill.py [--mir PATH] [--tables PATH] [--repeat N] [--show] [--counts] [--page PATH]
+    bench/fill.py --all [PART ..] [--mir PATH] [--tables PATH] [--repeat N] [--csmith N] [--gcc FOLDER] [--keep FOLDER]
+                  [--core N] [--page PATH] [--few]
 
 A cell is filled by the head of its column and the workload and size of its row: `Time s`, `Memory MB`, `A second`,
 `x time` and `x memory`; `move: s` and `move: MB`, and the same of `optimise`, of the workload with this command behind
 its name; `mir s`, `opt s` and `mir / opt`, where `opt` is here. All other cells stay, and so does the text but for what
-the start takes and the sentence on minor page faults. With `--counts` it measures no time and counts instructions by
-callgrind: `Instructions`, `x at half`, `move: millions` and the like, and the sentence on the other workloads. With
-`--all` it does both, one after the other, and before them has the scripts beside it put in what they count and measure
-(`fill_scripts.py`), so that no number of the page is older than another; csmith draws N programs a set, and the tests of
-GCC are those of FOLDER. With `--show` the new page is printed and not written. The program is the one that the gate built
-where no other is named; of each call the least time of N is taken, the greatest peak and the most page faults. It runs on
-Linux alone, with Python's standard library.
+the start takes. With `--counts` it measures no time and counts instructions by callgrind: `Instructions`, `x at half`,
+`move: millions` and the like, and the sentence on the other workloads. With `--show` the new page is printed and not
+written.
+
+With `--all` every number of the page is made anew, part by part, and the page is written behind each part; with names
+of PARTS (below) these alone are made. What the scripts beside it count and measure is put in by `fill_scripts.py`;
+csmith draws N programs a set, and the tests of GCC are those of FOLDER. With `--keep` a call that was cut off goes on
+where it was: in this folder stands which parts were made of this program, and what became of its programs of C. When all
+parts are made of one program, the head of the page says so. With `--few` each part takes few programs and texts: so it
+is tried whether each works.
+
+The programs are those that the gate built where no others are named, and `mir_tables` is the one beside a `mir` that is
+named; where that is not proved, by the file `proof.txt` beside it, or with `--few`, README.md itself is not written. Of
+each call the least time of N is taken, and the greatest peak. It runs on Linux alone, with Python's standard library;
+`--all` wants csmith, clang, opt and valgrind too.
 """
 
 import argparse
+import datetime
 import functools
+import hashlib
 import re
 import shutil
 import subprocess
@@ -30,20 +41,30 @@ sys.dont_write_bytecode = True
 
 import against_llvm  # noqa: E402
 import fill_scripts  # noqa: E402
+import measuring  # noqa: E402
 import run  # noqa: E402
 
 PAGE = Path(__file__).resolve().parent / 'README.md'
+PARTS = ('real', 'native', 'beside', 'bril', 'turns', 'rounds', 'limits', 'times', 'counts')
+# What `--all` calls, and the workloads whose rows are filled where few are taken.
+TOOLS = ('csmith', 'clang', 'opt', 'valgrind')
+FEW = ('line', 'loop', 'diamonds', 'tails', 'diamonds-tables')
 
 
 class Meter:
     """Measures each call once."""
 
-    def __init__(self, mir: str, repeat: int, folder: Path, counts: bool):
-        """What is called, how often, where the texts stand meanwhile, and whether instructions are counted."""
-        self.command, self.repeat, self.folder = [str(Path(mir).resolve())], repeat, folder
+    def __init__(self, mir: str, repeat: int, folder: Path, counts: bool, few: bool = False):
+        """What is called, how often, where the texts stand meanwhile, and whether instructions are counted, and of few
+        workloads alone."""
+        self.command, self.repeat, self.folder, self.few = [str(Path(mir).resolve())], repeat, folder, few
         self.workloads = {workload.name: workload for workload in run.WORKLOADS}
         self.counts = counts
         self.start = None if counts else run.measure(self.command, run.smallest(), folder, repeat)
+
+    def is_filled(self, name: str) -> bool:
+        """Whether what stands of a workload is made anew."""
+        return not self.few or name in FEW
 
     @functools.lru_cache(maxsize=None)
     def cases(self, name: str) -> dict[int, run.Case]:
@@ -143,7 +164,9 @@ def filled(text: str, meter: Meter) -> str:
             heads = [cell.replace('`', '') for cell in cells]
         elif heads[:2] == ['Workload', 'Size'] and re.match(r'[\d,]+', cells[1]):
             name, size = cells[0].strip('`') or name, int(re.match(r'[\d,]+', cells[1])[0].replace(',', ''))
-            if meter.counts:
+            if not meter.is_filled(name):
+                pass
+            elif meter.counts:
                 cells[2:] = [meter.counted(heads, place, name, size, cells[place]) for place in range(2, len(cells))]
             else:
                 cells = [meter.cell(head, name, size, cell) for head, cell in zip(heads, cells)]
@@ -152,22 +175,15 @@ def filled(text: str, meter: Meter) -> str:
     if meter.counts:
         return told('\n'.join(lines), meter)
     start = f'Start: {meter.start.seconds:.3f} s, {meter.start.bytes / 1e6:.1f} MB.'
-    return faulted(re.sub(r'Start: [\d.]+ s, [\d.]+ MB\.', start, '\n'.join(lines)), meter)
-
-
-def faulted(text: str, meter: Meter) -> str:
-    """The page with the sentence on minor page faults under `optimise`, each at the greatest size."""
-    def of(found: re.Match) -> str:
-        name = found[1] if found[1] in meter.workloads else f'{found[1]}-optimise'
-        return f'`{found[1]}`{found[2]}{meter.taken(name, max(meter.cases(name))).faults:,}'
-
-    return in_sentence(text, 'Minor page faults under', r'`([\w-]+)`(\s)\d[\d,]*\d', of)
+    return re.sub(r'Start: [\d.]+ s, [\d.]+ MB\.', start, '\n'.join(lines))
 
 
 def told(text: str, meter: Meter) -> str:
     """The page with the sentences on the instructions of the workloads that stand in no table of them, and on those of a
     step."""
     def of(found: re.Match) -> str:
+        if not meter.is_filled(found[1]):
+            return found[0]
         size = max(meter.cases(found[1]))
         half = f',{found[3]}{meter.against_half(found[1], size)}' if found[3] else ''
         return f'`{found[1]}`{found[2]}{meter.millions(found[1], size):,.1f}{half}'
@@ -175,7 +191,8 @@ def told(text: str, meter: Meter) -> str:
     numbers = r'`([\w-]+)`(\s)[\d,.]*\d(?:,(\s)[\d.]+\d)?'
     text = in_sentence(text, 'Instructions of the other workloads', numbers, of)
     return in_sentence(text, 'Instructions a step:', r'`([\w-]+)`(\s)[\d.]+\d',
-                       lambda found: f'`{found[1]}`{found[2]}{meter.a_step(found[1]):.1f}')
+                       lambda found: f'`{found[1]}`{found[2]}{meter.a_step(found[1]):.1f}'
+                       if meter.is_filled(found[1]) else found[0])
 
 
 def in_sentence(text: str, head: str, pattern: str, of: Callable[[re.Match], str]) -> str:
@@ -188,31 +205,93 @@ def in_sentence(text: str, head: str, pattern: str, of: Callable[[re.Match], str
 def fill(given: argparse.Namespace, counts: bool) -> str:
     """The page with what is measured here, times or counts."""
     with tempfile.TemporaryDirectory(prefix='mir-bench-') as folder:
-        return filled(PAGE.read_text(encoding='utf-8'), Meter(given.mir, given.repeat, Path(folder), counts))
+        meter = Meter(given.mir, 1 if given.few else given.repeat, Path(folder), counts, given.few)
+        return filled(given.page.read_text(encoding='utf-8'), meter)
+
+
+def fill_part(given: argparse.Namespace, part: str) -> None:
+    """Puts the numbers of one part into the page."""
+    how = fill_scripts.How(given.mir, given.csmith, given.gcc, given.keep, given.core, given.few)
+    if part in ('real', 'native'):
+        {'real': fill_scripts.real, 'native': fill_scripts.native}[part](given.page, how)
+        return
+    if part in ('times', 'counts'):
+        page = fill(given, part == 'counts')
+    else:
+        script = {'beside': fill_scripts.run_beside, 'bril': fill_scripts.bril, 'turns': fill_scripts.turns,
+                  'rounds': fill_scripts.rounds, 'limits': fill_scripts.limits}[part]
+        page = script(given.page.read_text(encoding='utf-8'), how)
+    given.page.write_text(page, encoding='utf-8')
+
+
+def program_measured() -> str:
+    """What the head of the page says of the program: the sources that stand here, and the day."""
+    def git(*words: str) -> str:
+        told = subprocess.run(['git', '-C', str(run.TOP), *words], check=True, capture_output=True, text=True)
+        return told.stdout.strip()
+
+    changes = ' with changes' if git('status', '--porcelain', 'crates') else ''
+    return f'the program of {git("rev-parse", "--short=8", "HEAD")}{changes}, measured on {datetime.date.today()}'
+
+
+def made_before(given: argparse.Namespace) -> list[str]:
+    """The lines of the folder that is kept, one for each part that was made of a program; none without such a folder."""
+    kept = Path(given.keep, 'parts')
+    return kept.read_text().splitlines() if given.keep and kept.exists() else []
 
 
 def fill_all(given: argparse.Namespace) -> None:
-    """Puts all numbers of the page in, one kind after the other."""
-    fill_scripts.real(given.mir, given.csmith, given.gcc)
-    page = PAGE.read_text(encoding='utf-8')
-    for part in (fill_scripts.run_beside, fill_scripts.bril, fill_scripts.turns):
-        page = part(page, given.mir)
-    PAGE.write_text(fill_scripts.rounds(page, given.mir, given.csmith), encoding='utf-8')
-    for counts in (False, True):
-        PAGE.write_text(fill(given, counts), encoding='utf-8')
+    """Puts the numbers of the parts in, one part after the other; of all parts together it is said what they are of."""
+    missing = [tool for tool in TOOLS if shutil.which(tool) is None]
+    if missing:
+        raise run.Failure(f'not here: {", ".join(missing)}')
+    program = hashlib.sha256(Path(given.mir).read_bytes()).hexdigest()
+    made = {part for part in PARTS if f'{program} {part}' in made_before(given)}
+    for part in given.parts or [part for part in PARTS if part not in made]:
+        print(f'bench/fill.py: part {part}', file=sys.stderr, flush=True)
+        fill_part(given, part)
+        made.add(part)
+        if given.keep:
+            with open(Path(given.keep, 'parts'), 'a') as kept:
+                print(program, part, file=kept)
+    if made == set(PARTS) and not given.few:
+        older = '' if given.gcc else ', but for the rows of `gcc`, which are older'
+        page = fill_scripts.told_of(given.page.read_text(encoding='utf-8'), program_measured(), older)
+        given.page.write_text(page, encoding='utf-8')
+
+
+def words_given() -> argparse.Namespace:
+    """The words of the call."""
+    words = argparse.ArgumentParser(description=__doc__.split('\n')[0])
+    words.add_argument('--mir', default=str(run.PROGRAM), metavar='PATH', help='the program that is measured')
+    words.add_argument('--tables', metavar='PATH', help='the program that writes tables (mir_tables beside the other)')
+    words.add_argument('--repeat', type=int, default=11, metavar='N', help='take the least time of N calls (11)')
+    words.add_argument('--page', type=Path, default=PAGE, metavar='PATH', help='the page (README.md beside this file)')
+    words.add_argument('--show', action='store_true', help='print the page, and do not write it')
+    words.add_argument('--counts', action='store_true', help='count instructions, by callgrind, and measure no time')
+    words.add_argument('--all', action='store_true', help='all numbers of the page, with those of other scripts')
+    words.add_argument('--few', action='store_true', help='few of all, to try each part')
+    words.add_argument('--csmith', type=int, default=560, metavar='N', help='with --all: programs of csmith a set (560)')
+    words.add_argument('--gcc', default='', metavar='FOLDER', help='with --all: the tests of GCC')
+    words.add_argument('--keep', default='', metavar='FOLDER', help='with --all: a folder with what is done')
+    words.add_argument('--core', default='', metavar='N', help='with --all: the processor of timed native programs')
+    words.add_argument('parts', nargs='*', metavar='PART', help=f'with --all: {", ".join(PARTS)}')
+    given = words.parse_args()
+    if given.keep:
+        Path(given.keep).mkdir(exist_ok=True)
+    if set(given.parts) - set(PARTS) or given.parts and not given.all or given.all and given.show:
+        words.error(f'a PART is one of {", ".join(PARTS)}, behind --all, which shows nothing')
+    proof = Path(given.mir).resolve().parent / 'proof.txt'
+    is_unproved = proof.exists() and 'mir: not proved' in proof.read_text()
+    if not given.show and given.page.resolve() == PAGE and (given.few or is_unproved):
+        words.error('README.md has the numbers of a proved program: name another page')
+    return given
 
 
 def main() -> int:
     """Fills the page."""
-    words = argparse.ArgumentParser(description=__doc__.split('\n')[0])
-    words.add_argument('--mir', default=str(run.PROGRAM), metavar='PATH', help='the program that is measured')
-    words.add_argument('--repeat', type=int, default=11, metavar='N', help='take the least time of N calls (11)')
-    words.add_argument('--show', action='store_true', help='print the page, and do not write it')
-    words.add_argument('--counts', action='store_true', help='count instructions, by callgrind, and measure no time')
-    words.add_argument('--all', action='store_true', help='all numbers of the page, with those of other scripts')
-    words.add_argument('--csmith', type=int, default=560, metavar='N', help='with --all: programs of csmith a set (560)')
-    words.add_argument('--gcc', nargs='*', default=[], metavar='FOLDER', help='with --all: the tests of GCC')
-    given = words.parse_args()
+    given = words_given()
+    measuring.take_tables(given.mir, given.tables)
     run.adopt_orphans()
     if given.all:
         fill_all(given)
@@ -221,7 +300,7 @@ def main() -> int:
     if given.show:
         print(page, end='')
     else:
-        PAGE.write_text(page, encoding='utf-8')
+        given.page.write_text(page, encoding='utf-8')
     return 0
 
 

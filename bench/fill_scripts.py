@@ -3,22 +3,50 @@
 import re
 import subprocess
 import sys
+import textwrap
 from pathlib import Path
+from typing import NamedTuple
 
 FOLDER = Path(__file__).resolve().parent
+sys.path.insert(0, str(FOLDER.parent / 'tools'))
+
+import hostile  # noqa: E402
+import real_tables  # noqa: E402
+
 # The words behind which each row of drawn programs is made, by how the row begins.
 DRAWN = {'`divisions.py`': ['divisions.py'], '`wanted.py`': ['wanted.py'],
          '`wanted.py`, `demanded`': ['wanted.py', '--words', 'passes', 'demanded'],
          '`wanted.py`, `bounds`': ['wanted.py', '--words', 'passes', 'bounds'],
          '`wanted.py`, `comparisons`': ['wanted.py', '--tests', '--words', 'passes', 'comparisons'],
          '`chains.py`': ['chains.py']}
+# The words of which a sentence says that there were no differences.
+ALSO = (['thorough'], ['passes', 'terms'], ['passes', 'extensions'], ['passes', 'unread'])
 MOST_ROUNDS = 16
+# A call of a text at the limits is stopped at these; and a command whose calls all take less than a second has no row.
+SECONDS, MEGABYTES, LONG = 12, 4000, 1.0
+FEW_WORKLOADS = ('diamonds', 'tails')
 
 
-def said(mir: str, script: str, *words: str) -> str:
-    """What a script of this folder prints of this program; where it fails, so does this."""
+class How(NamedTuple):
+    """The program, how many programs csmith draws, where the tests of GCC and what became of programs of C stand, the
+    processor on which native programs are timed, and whether few of all are taken, to try that each part works."""
+
+    mir: str
+    csmith: int = 560
+    gcc: str = ''
+    keep: str = ''
+    core: str = ''
+    few: bool = False
+
+    def some(self, *words: str) -> list[str]:
+        """These words where few are taken, and else none."""
+        return list(words) if self.few else []
+
+
+def said(how: How, script: str, *words: str) -> str:
+    """What a script of this folder prints of the program; where it fails, so does this."""
     print(f'bench/fill.py: {script} {" ".join(words)}', file=sys.stderr, flush=True)
-    return subprocess.run([sys.executable, str(FOLDER / script), '--mir', mir, *words], check=True,
+    return subprocess.run([sys.executable, str(FOLDER / script), '--mir', how.mir, *words], check=True,
                           stdout=subprocess.PIPE, text=True).stdout
 
 
@@ -27,20 +55,61 @@ def number(text: str, what: str) -> str:
     return re.search(rf'([\d,]+) {what}', text)[1]
 
 
-def run_beside(page: str, mir: str) -> str:
+def paragraph(page: str, begin: str, text: str) -> str:
+    """The page with this text in the place of the paragraph that begins so."""
+    start = page.index(f'\n\n{begin}') + 2
+    end = page.index('\n\n', start)
+    return page[:start] + textwrap.fill(text, 120, break_on_hyphens=False, break_long_words=False) + page[end:]
+
+
+def real(page: Path, how: How) -> None:
+    """Has `real.py` put its tables into the page, and puts in what follows from them."""
+    keep = ['--keep', how.keep] if how.keep else []
+    put = ['--csmith', str(how.csmith), *keep, '--fill', '--page', str(page)]
+    told = said(how, 'real.py', *put, '--set', 'small', 'large', 'inputs', 'examples')
+    if how.gcc:
+        said(how, 'real.py', *keep, '--gcc', how.gcc, '--fill', '--page', str(page))
+    text = page.read_text(encoding='utf-8')
+    text = paragraph(text, 'Of what `optimise` leaves', real_tables.shares(text))
+    pairs = re.findall(r'than optimise in (\d+) of (\d+) programs', told)[:-1]
+    more, both = (sum(int(pair[at]) for pair in pairs) for at in (0, 1))
+    text = paragraph(text, 'What `thorough` makes evaluates more', 'What `thorough` makes evaluates more operators than '
+                     f'what `optimise` makes in {more:,} of {both:,} programs of csmith.')
+    page.write_text(text, encoding='utf-8')
+
+
+def native(page: Path, how: How) -> None:
+    """Has `real.py` put the times of native programs into the page."""
+    keep = ['--keep', how.keep] if how.keep else []
+    core = ['--core', how.core] if how.core else []
+    told = said(how, 'real.py', '--csmith', str(min(how.csmith, 200)), *keep, *core, '--set', 'turns', '--fill',
+                '--page', str(page))
+    text = page.read_text(encoding='utf-8')
+    text = re.sub(r'first [\d,]+ programs', f'first {number(told, "programs")} programs', text)
+    page.write_text(text, encoding='utf-8')
+
+
+def run_beside(page: str, how: How) -> str:
     """The page with the table of drawn programs that are run beside what is made of them."""
+    few = how.some('--programs', '20')
     for name, words in DRAWN.items():
-        told = said(mir, *words).rstrip().split('\n')[-1]
+        told = said(how, *words, *few).rstrip().split('\n')[-1]
         cells = [number(told, what) for what in ('runs', 'ended', 'trapped', 'running', 'ended with', 'differences')]
         row = re.compile(rf'^(\| {re.escape(name)} \| )[\d,]+([^|]* \|).*$', re.M)
-        drawn = number(told, 'programs')
+        drawn, *cells = (f'{int(count.replace(",", "")):,}' for count in (number(told, 'programs'), *cells))
         page = row.sub(lambda found: found[1] + drawn + found[2] + ''.join(f' {cell} |' for cell in cells), page)
-    return page
+    for words in ALSO:
+        said(how, 'wanted.py', *few, '--words', *words)
+    told = said(how, 'against_llvm.py', '--repeat', '0', *few).rstrip().split('\n')[-1]
+    return paragraph(page, f'{number(page, "drawn programs with globals")} drawn programs',
+                     f'{number(told, "programs")} drawn programs with globals and trap instructions, run as they are, '
+                     f'optimised, compiled, and both: {number(told, "differences")} differences.')
 
 
-def rounds(page: str, mir: str, csmith: int) -> str:
+def rounds(page: str, how: How) -> str:
     """The page with the table of how many rounds of sinking are made."""
-    for line in said(mir, 'rounds.py', '--csmith', str(csmith)).rstrip().split('\n'):
+    words = ['--csmith', str(min(how.csmith, 500)), *how.some('--programs', '20')]
+    for line in said(how, 'rounds.py', *words).rstrip().split('\n'):
         counts = dict(re.findall(r'(\d+): ([\d,]*\d)', line.split(':', 1)[1]))
         kind = 'C programs of csmith' if 'csmith' in line else 'drawn programs'
         cells = [counts.get(str(each), '') for each in range(1, MOST_ROUNDS + 1)]
@@ -51,30 +120,54 @@ def rounds(page: str, mir: str, csmith: int) -> str:
 
 
 def is_told(row: str) -> bool:
-    """Whether turns take half as much again as one `optimise`, or more than one changes something."""
-    cells = [cell.strip() for cell in row.split('|')]
-    return cells[3] != '1' or float(cells[6]) >= 1.5
+    """Whether turns take half as much again as one `optimise`, or more."""
+    return float(row.split('|')[6]) >= 1.5
 
 
-def turns(page: str, mir: str) -> str:
-    """The page with the table of what turns take beside one `optimise`, of the workloads of which this tells something."""
-    head, *rows = said(mir, 'turns.py', '--seconds', '5').rstrip().split('\n')
+def turns(page: str, how: How) -> str:
+    """The page with the table of what turns take beside one `optimise`, of the workloads on which they take more."""
+    words = ['--seconds', '1', *FEW_WORKLOADS] if how.few else ['--seconds', '5']
+    head, *rows = said(how, 'turns.py', *words).rstrip().split('\n')
     rows = list(filter(is_told, rows))
     begin = page.index(head)
     end = page.index('\n\n', begin)
     return page[:begin] + '\n'.join([head, '|---' * head.count(' | ') + '|---|', *rows]) + page[end:]
 
 
-def bril(page: str, mir: str) -> str:
+def bril(page: str, how: How) -> str:
     """The page with the block of the programs in Bril."""
     begin = page.index('$ bench/bril.py --mir ./mir\n')
     end = page.index('```', begin)
-    return page[:begin] + '$ bench/bril.py --mir ./mir\n' + said(mir, 'bril.py') + page[end:]
+    return page[:begin] + '$ bench/bril.py --mir ./mir\n' + said(how, 'bril.py') + page[end:]
 
 
-def real(mir: str, csmith: int, gcc: list[str]) -> None:
-    """Has `real.py` put its tables into the page."""
-    said(mir, 'real.py', '--csmith', str(csmith), '--set', 'small', 'large', 'inputs', 'examples', '--fill')
-    said(mir, 'real.py', '--csmith', str(csmith), '--set', 'turns', '--fill')
-    if gcc:
-        said(mir, 'real.py', '--gcc', *gcc, '--fill')
+def limits(page: str, how: How) -> str:
+    """The page with what texts at the limits take: a row for each command of which a call is long or was stopped, and what
+    the others take at most."""
+    commands = [words for words in hostile.COMMANDS if words != 'passes 64']
+    told = said(how, 'hostile.py', '--seconds', str(SECONDS), '--memory', str(MEGABYTES), *how.some('--of', '64'),
+                '--words', *commands)
+    calls, found = told.split('\n| Command |')
+    ends = [line for line in calls.split('\n')[1:] if line]
+    stopped = sum(line.endswith(('stopped', 'out of memory')) for line in ends)
+    rows = [line for line in found.split('\n') if line.startswith('| `')]
+    slowest = {row: float(re.match(r'\| `[^`]*` \| `[^`]*` ([\d.,]+) ', row)[1].replace(',', '')) for row in rows}
+    shown = [row for row in rows if slowest[row] >= LONG or row.count('`') > 6]
+    others = max([slowest[row] for row in rows if row not in shown], default=0)
+    begin = page.index('| Command | Slowest, s |')
+    page = page[:begin] + '\n'.join(['| Command | Slowest, s | Largest, MB | Stopped |', '|---|---|---|---|', *shown]) \
+        + page[page.index('\n\n', begin):]
+    page = paragraph(page, '`bench/hostile.py', f'`bench/hostile.py --seconds {SECONDS} --memory {MEGABYTES}` calls each '
+                     f'command but `passes 64` on {len(hostile.shapes(1))} shapes of texts, each as long as it may be: the '
+                     'slowest call that ended, the largest, and the shapes of which a call was stopped, since it took more '
+                     f'than {SECONDS} s of the processor or {MEGABYTES / 1000:.0f} GB.')
+    return paragraph(page, 'At most 10 s', f'At most 10 s and 1 GB are aimed at; {stopped} of {len(ends)} calls were '
+                     f'stopped. The other commands take at most {others:.1f} s on any shape.')
+
+
+def told_of(page: str, program: str, older: str) -> str:
+    """The page that says which program its numbers are of, and which rows are older."""
+    begin = page.index('<!-- of which program -->')
+    end = page.index('\n\n## ', begin)
+    text = f'All numbers are of {program}, by `bench/fill.py --all`{older}.'
+    return page[:begin] + '<!-- of which program -->\n' + textwrap.fill(text, 120, break_on_hyphens=False) + page[end:]

@@ -115,6 +115,13 @@ def program_of(command: list[str]) -> list[str]:
     return command[-1:]
 
 
+def take_tables(mir: str, named: Optional[str] = None) -> None:
+    """Has the cases of tables call the program that is named, or else the `mir_tables` beside this `mir`, where one is."""
+    global TABLES
+    program = Path(named) if named else Path(mir).resolve().parent / 'mir_tables'
+    TABLES = program.resolve() if named or program.exists() else TABLES
+
+
 def called(command: list[str], case: Case) -> list[str]:
     """The command with the words of a case; that of `tables` is a program of its own."""
     return [*command[:-1], str(TABLES)] if case.words == ['tables'] else [*command, *case.words]

@@ -1,7 +1,8 @@
 #!/usr/bin/env python3
 """Brings C programs in, and compares what they do as native programs, as MIR, and as what `mir` makes of it.
 
-    bench/real.py [--mir PATH] [--csmith N] [--set NAME ..] [--minutes N] [--gcc FOLDER] [--fill] [FILE ..]
+    bench/real.py [--mir PATH] [--csmith N] [--set NAME ..] [--minutes N] [--gcc FOLDER] [--fill [--page PATH]]
+                  [FILE ..]
 
 The programs are those that `csmith` draws, N of each of these sets (`bench/drawn.py` has their settings), and each C
 file that is named or lies in a folder that is named, from its `main` on:
@@ -62,10 +63,9 @@ from tool_calls import module_of  # noqa: E402
 
 TIMED = ('optimise', 'thorough')
 COMMANDS = ('optimise', 'thorough', 'move', 'divisions', 'tails', 'join')
-# Turns of fewer passes than `thorough` makes, and of one more, until one changes nothing; and the most that are made.
+# Turns of fewer passes than `thorough` makes, until one changes nothing; and the most that are made.
 TURNS = {'turns': 'tails join optimise called', 'wanted': 'tails join optimise wanted called',
-         'demanded': 'tails join optimise demanded called',
-         'comparisons': 'tails join arguments optimise comparisons terms demanded bounds extensions unread called'}
+         'demanded': 'tails join optimise demanded called'}
 MOST_TURNS = 16
 # Native programs end by themselves after a part of a second, which a busy machine gives them late.
 STEPS, SECONDS = 1_000_000, 600
@@ -437,7 +437,8 @@ def words_given() -> argparse.Namespace:
     words.add_argument('--table', type=int, default=0, help='how many programs are shown in which LLVM leaves less')
     words.add_argument('--keep', type=Path, help='a folder for the programs, which stay there, and what became of each')
     words.add_argument('--gcc', type=Path, help='the folder gcc.c-torture/execute of the tests of GCC')
-    words.add_argument('--fill', action='store_true', help='put the tables into README.md')
+    words.add_argument('--fill', action='store_true', help='put the tables into the page')
+    words.add_argument('--page', type=Path, default=PAGE, help='the page (README.md beside this file)')
     words.add_argument('files', nargs='*', type=Path, metavar='FILE', help='C files and folders of them')
     return words.parse_args()
 
@@ -447,7 +448,7 @@ def main() -> int:
     given = words_given()
     sets = [name for name in given.set if given.csmith or name == 'examples']
     sets += ['gcc'] * bool(given.gcc) + ['files'] * bool(given.files)
-    status, page = 0, PAGE.read_text(encoding='utf-8')
+    status, page = 0, given.page.read_text(encoding='utf-8')
     with tempfile.TemporaryDirectory() as made:
         folder = given.keep or Path(made)
         folder.mkdir(exist_ok=True)
@@ -475,7 +476,7 @@ def main() -> int:
             print_table(outcomes, given.table)
             page = real_tables.with_set(page, name, outcomes)
     if given.fill:
-        PAGE.write_text(page, encoding='utf-8')
+        given.page.write_text(page, encoding='utf-8')
     return status
 
 

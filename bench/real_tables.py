@@ -1,17 +1,19 @@
 """The tables of bench/real.py: what it counts and measures, as rows of README.md."""
 
 import collections
+import re
+import textwrap
 
 import native_times
 
 MARK = '<!-- bench/real.py -->'
 FEW = 20  # the mean of fewer times than these tells little
 WAYS = ('source', 'optimise', 'thorough', 'alike', 'all')
-TURNS = ('source', 'optimise', 'turns', 'wanted', 'demanded', 'thorough', 'comparisons', 'alike', 'all')
+TURNS = ('source', 'optimise', 'turns', 'wanted', 'demanded', 'thorough', 'alike', 'all')
 HEADS = {
     'ends': '| Set | Programs | Same | Different | Refused | Not compared | As native programs |',
     'reasons': '| Set | Refused or not compared, since | Programs |',
-    'operators': '| Set | Programs | Source | `optimise` | `turns` | `wanted` | `demanded` | `thorough` | `comparisons` '
+    'operators': '| Set | Programs | Source | `optimise` | `turns` | `wanted` | `demanded` | `thorough` '
                  '| `alike` | `all` |',
     'arithmetic': '| Set | Arithmetic | Programs | `optimise` | `thorough` | `alike` | `all` |',
     'beside': '| Set | LLVM | `optimise`: less | as much | more | `thorough`: less | as much | more |',
@@ -113,7 +115,38 @@ def with_set(page: str, name: str, outcomes: list) -> str:
         return with_each(page, outcomes)
     for table, rows in rows_of(name, outcomes).items():
         page = put(page, table, f'`{name}`', rows)
-    return page
+    return with_most(page, name, outcomes)
+
+
+def shares(page: str) -> str:
+    """A sentence on the operators that remain of those that `optimise` leaves, by the table of them."""
+    head = [cell.strip(' `') for cell in HEADS['operators'].split('|')]
+    table = page.partition(HEADS['operators'])[2].split('\n\n')[0]
+    found = {}
+    for line in table.split('\n'):
+        cells = dict(zip(head, (cell.strip(' `') for cell in line.split('|'))))
+        if cells.get('optimise', '-').strip('-'):
+            found[cells['Set']] = [int(cells[way].replace(',', '')) for way in ('optimise', 'thorough', 'all')]
+    ours = ', '.join(f'{thorough / least:.2f} of `{name}`' for name, (least, thorough, _) in found.items())
+    theirs = ', '.join(f'{left / least:.2f}' for least, _, left in found.values())
+    return f'Of what `optimise` leaves, `thorough` leaves {ours}; `all` leaves {theirs}.'
+
+
+def with_most(page: str, name: str, outcomes: list) -> str:
+    """The page with the numbers of the program of which `thorough` leaves most, where it tells of one of this set."""
+    found = re.search(rf'(?m)^Program \d+ of `{name}` has (?:.+\n)+', page)
+    whole = [each for each in counted(outcomes) if 'thorough' in each.evals]
+    if found is None or len(whole) < 2:
+        return page
+    most = max(whole, key=lambda each: each.evals['thorough'])
+    least, ours, theirs = (sum(each.evals[way] for each in whole) - most.evals[way] for way in ('optimise', 'thorough', 'all'))
+    rest = ' '.join(found[0].split()).split('. ', 1)[1]
+    number = most.name.removeprefix(f'{name}_')
+    if f'Program {number} of' not in found[0]:  # what is said of the other program is not known of this one
+        rest = rest.split('. ', 1)[1]
+    text = (f'Program {number} of `{name}` has {most.evals["thorough"]:,} of what `thorough` leaves, and {most.evals["all"]:,} of '
+            f'what `all` leaves; without it they leave {ours / least:.2f} and {theirs / least:.2f}. {rest}')
+    return page.replace(found[0], textwrap.fill(text, 120, break_on_hyphens=False) + '\n')
 
 
 def with_times(page: str, times: list[native_times.Times]) -> str:

@@ -3,8 +3,9 @@
 
     bench/run.py [--mir PATH] [--repeat N] [--callgrind] [WORKLOAD ..]
 
-With no workload named, all are measured. README.md beside this file tells what each shows. To add a workload, write a
-function that gives its cases, and a line in WORKLOADS. It runs on Linux alone, with Python's standard library.
+With no workload named, all are measured; tables by the `mir_tables` beside a `mir` that is named. README.md beside this
+file tells what each shows. To add a workload, write a function that gives its cases, and a line in WORKLOADS. It runs on
+Linux alone, with Python's standard library.
 """
 
 import argparse
@@ -15,7 +16,8 @@ import tempfile
 from pathlib import Path
 from typing import Callable, NamedTuple, Optional
 
-from measuring import ENDED, RUNNING, Case, Failure, Measure, adopt_orphans, instructions, judge, measure
+from measuring import (ENDED, RUNNING, Case, Failure, Measure, adopt_orphans, instructions, judge, measure,
+                       take_tables)
 from texts import (LOOP, LOOP_OF_CALLS, LOOP_OF_CALLS_GLOBAL, LOOP_OF_GLOBALS, dense, diamonds, doubling,
                    edges_into_one_join, gotos_in_a_chain, joins_used_at_end, joins_used_in_arms, joins_with_copies,
                    joins_with_prints, loops_in_a_row, loops_laid_out, many_names, many_units, nested_loops,
@@ -489,6 +491,8 @@ def main() -> int:
     asked = options()
     command = [str(Path(asked.mir).resolve())]
     program = command[0] if asked.mir != MIR else str(PROGRAM)
+    if asked.mir != MIR:
+        take_tables(asked.mir)
     warm_up(command)
     adopt_orphans()
     with tempfile.TemporaryDirectory(prefix='mir-bench-') as name:

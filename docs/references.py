@@ -26,7 +26,7 @@ NAME = re.compile(r"[A-Za-z_][\w']*(?:::[\w']+)*")
 OF = re.compile(r'((?:`[^`]+`(?:, and |, | and | or ))*`[^`]+`) (?:of|in) (`[\w./-]+`)')
 BESIDE = re.compile(r'((?:`[^`./]+`(?:, and |, | and | or ))*`[^`./]+`)(?:, | \()((?:`[\w/]+\.antt`(?:, )?)+)')
 # Pages with a row for each crate, and what names it there.
-ROWS = {'docs/WAYS.md': '`{}`', 'docs/ARCHITECTURE.md': '\n| `{}` |', 'docs/PROOFS.md': ' | `{}` | '}
+ROWS = {'docs/WAYS.md': '`{}`', 'docs/ARCHITECTURE.md': '\n| `{}` |', 'docs/PROOFS.md': '\n| `{}` | '}
 
 
 @functools.lru_cache(maxsize=None)
