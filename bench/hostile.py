@@ -133,6 +133,19 @@ def globals_and_calls(draw: random.Random, count: int) -> str:
     return f'{head}main: begin\nreceive a(val)\n{body}return a\nend\n{other}'
 
 
+def globals_handed_on(draw: random.Random, count: int) -> str:
+    """A unit that calls itself, hands each of 64 globals on to the one before, the first to the last and shifted by one place,
+    and of which one bit of one global is read, behind sums of other variables."""
+    names, sums = [f'g{number}' for number in range(64)], [f'v{number}' for number in range(min(100, count))]
+    head = ''.join(f'global {name}\n' for name in names)
+    moves = ''.join(f'{name} <- {other}\n' for name, other in zip(names, [*names[1:], 'last']))
+    fill = ''.join(f'{name} <- {name} + {draw.choice(sums)}\n' for name in draw.choices(sums, k=count))
+    prints = ''.join(f'print {name}\n' for name in sums)
+    main = 'main: begin\nreceive a(val)\ncall u0,(a,int)\na <- g0 and 1\nreturn a\nend\n'
+    return (f'{head}{main}u0: begin\nreceive x(val)\nif x < 1 goto out\nx <- x - 1\ncall u0,(x,int)\nlast <- g0 shr 1\n'
+            f'{moves}{fill}{prints}out: return x\nend\n')
+
+
 def shapes(of: int) -> dict[str, Callable[[random.Random], str]]:
     """What is drawn, at this part of the greatest size."""
     insts, units = INSTRUCTIONS // of, at_most(UNITS // of, 2)
@@ -158,6 +171,7 @@ def shapes(of: int) -> dict[str, Callable[[random.Random], str]]:
         'small-leaves': lambda draw: texts.small_leaves(units - 1, at_most(4000 // of))[0],
         'calls': lambda draw: with_calls(draw, units - 1),
         'globals': lambda draw: globals_and_calls(draw, at_most((insts - 8) // 3)),
+        'globals-handed-on': lambda draw: globals_handed_on(draw, at_most(insts - 200)),
         'many-units': lambda draw: texts.many_units(BYTES // of // 4096 * 4096),
         'many-names': lambda draw: texts.many_names(BYTES // of // 16 * 16),
         'long-names': lambda draw: long_names(draw, BYTES // of),

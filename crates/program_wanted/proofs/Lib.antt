@@ -3,6 +3,7 @@ pub mod Raises
 pub mod Called
 pub mod Marks
 pub mod Fresh
+pub mod Prepares
 pub mod UnitServes
 pub mod FirstZeros
 pub mod RunsBeside

@@ -2,6 +2,7 @@ pub mod Demands
 pub mod Sweeps
 pub mod Calling
 pub mod Stale
+pub mod Preparing
 pub mod DemandStacks
 pub mod DemandLaws
 pub mod WantedPrograms

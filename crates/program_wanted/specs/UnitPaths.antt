@@ -1,24 +1,15 @@
 -- That no path through a unit is dearer once it is narrowed. Cited by contracts.
-use Rattle.std.specs.Prelude.{◌≡◌, ◌↔◌, ◌≤◌, ℕ, List, slice_get, Some}
-use Rattle.mir_base.specs.Expressions.{rhs_count}
+use Rattle.std.specs.Prelude.{◌≡◌, ℕ, List, slice_get, Some}
 use Rattle.mir_base.specs.Shapes.{ProgramShape}
-use Rattle.flow_graph.specs.declared.nodes.Node.{Node}
 use Rattle.flow_graph.specs.Graphs.{GraphShape}
 use Rattle.flow_graph.specs.Passes.{GraphCheaper}
-use Rattle.flow_graph.specs.Paths.{IsFullPath}
-use Rattle.flow_graph.specs.Sums.{sum_on}
-use Rattle.graph_edit.specs.Over.{weight_at}
+use Rattle.wanted_bits.specs.NarrowedPaths.{KeepsPaths}
 use Rattle.program_wanted.specs.NarrowedUnits.{AreNarrowedUnits}
-
--- how many operators the nodes of a path evaluate
-abbrev pub evaluated_on : List Node → List ℕ → ℕ
-evaluated_on nodes path = sum_on (weight_at (λ x rhs. rhs_count rhs) nodes) path
 
 -- The two graphs have the same paths from Start to a Return, and on none does the second evaluate more operators; nor
 -- does it from one entry, with the same answers to its calls
 pub record HasNoDearer (graph narrowed : GraphShape) : Type 0 where
-  pub full : (path : List ℕ) → IsFullPath graph.nodes path ↔ IsFullPath narrowed.nodes path
-  pub fewer : (path : List ℕ) → evaluated_on narrowed.nodes path ≤ evaluated_on graph.nodes path
+  pub paths : KeepsPaths graph narrowed
   pub cheaper : GraphCheaper graph narrowed
 
 -- so it is of each unit

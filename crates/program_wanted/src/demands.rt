@@ -2,17 +2,19 @@
 ghost use Rattle.std.specs.Prelude.{◌≡◌, ◌<◌, length, IfOk, OnOk};
 ghost use Rattle.program_wanted.specs.Calling.{AreUnitCallers};
 ghost use Rattle.program_wanted.specs.Demands.{AreLeastDemands, IsAround};
+ghost use Rattle.program_wanted.specs.Preparing.{ArePrepared};
 ghost use Rattle.program_wanted.specs.Stale.{FreshAreServed};
 ghost use Rattle.program_wanted.specs.Sweeps.{FitTogether, IsProgress, Sweeps};
 ghost use Rattle.program_wanted.specs.Tables.{demands_of};
 
 use crate::calling::{Callers, callers_of};
+use crate::preparing::all_prepared;
 use crate::serving::serve_stale;
 use crate::starting::first_demands;
 use flow_graph::Graph;
 use mir_base::Memory;
 use std::alloc::Global;
-use wanted_bits::{Around, Widths};
+use wanted_bits::{Around, Prepared, Widths};
 
 /// What is asked for around each unit of a program. Contracts see it as `demands_of`.
 #[derive(Drop)]
@@ -61,9 +63,10 @@ fn served(
     ensures { IfOk result (λ tables. AreLeastDemands graphs.now.items (demands_of tables)) }
 {
     let mut tables = first;
+    let prepared = all_prepared(alloc, graphs)?;
     let mut stale = vec![in alloc; true; graphs.len()]?;
     loop {
-        let raised = sweep(alloc, graphs, callers, &mut tables, &mut stale)?;
+        let raised = sweep(alloc, graphs, &prepared, callers, &mut tables, &mut stale)?;
         if !raised {
             return Ok(tables);
         }
@@ -74,11 +77,13 @@ fn served(
 fn sweep(
     alloc: Global,
     graphs: &Vec<Graph>,
+    prepared: &Vec<Prepared>,
     callers: &Vec<Callers>,
     tables: &mut Tables,
     stale: &mut Vec<bool>,
 ) -> Result<bool, Memory>
     requires fit { FitTogether graphs.now.items }
+    requires prepared { ArePrepared graphs.now.items prepared.now.items }
     requires callers { AreUnitCallers graphs.now.items callers.now.items }
     requires progress { IsProgress graphs.now.items (demands_of tables.old) }
     requires fresh { FreshAreServed graphs.now.items (demands_of tables.old) stale.old.items }
@@ -87,8 +92,8 @@ fn sweep(
     ensures fresh { OnOk result
         (FreshAreServed graphs.now.items (demands_of tables.new) stale.new.items) }
 {
-    let down = sweep_down(alloc, graphs, callers, tables, stale)?;
-    let up = sweep_up(alloc, graphs, callers, tables, stale)?;
+    let down = sweep_down(alloc, graphs, prepared, callers, tables, stale)?;
+    let up = sweep_up(alloc, graphs, prepared, callers, tables, stale)?;
     Ok(down | up)
 }
 
@@ -96,11 +101,13 @@ fn sweep(
 fn sweep_down(
     alloc: Global,
     graphs: &Vec<Graph>,
+    prepared: &Vec<Prepared>,
     callers: &Vec<Callers>,
     tables: &mut Tables,
     stale: &mut Vec<bool>,
 ) -> Result<bool, Memory>
     requires fit { FitTogether graphs.now.items }
+    requires prepared { ArePrepared graphs.now.items prepared.now.items }
     requires callers { AreUnitCallers graphs.now.items callers.now.items }
     requires progress { IsProgress graphs.now.items (demands_of tables.old) }
     requires fresh { FreshAreServed graphs.now.items (demands_of tables.old) stale.old.items }
@@ -111,7 +118,7 @@ fn sweep_down(
 {
     let mut raised = false;
     for unit in 0..graphs.len() {
-        raised |= serve_stale(alloc, graphs, callers, tables, stale, unit)?;
+        raised |= serve_stale(alloc, graphs, prepared, callers, tables, stale, unit)?;
     }
     Ok(raised)
 }
@@ -120,11 +127,13 @@ fn sweep_down(
 fn sweep_up(
     alloc: Global,
     graphs: &Vec<Graph>,
+    prepared: &Vec<Prepared>,
     callers: &Vec<Callers>,
     tables: &mut Tables,
     stale: &mut Vec<bool>,
 ) -> Result<bool, Memory>
     requires fit { FitTogether graphs.now.items }
+    requires prepared { ArePrepared graphs.now.items prepared.now.items }
     requires callers { AreUnitCallers graphs.now.items callers.now.items }
     requires progress { IsProgress graphs.now.items (demands_of tables.old) }
     requires fresh { FreshAreServed graphs.now.items (demands_of tables.old) stale.old.items }
@@ -136,7 +145,7 @@ fn sweep_up(
     let mut raised = false;
     for count in 0..graphs.len() {
         let unit = graphs.len() - 1 - count;
-        raised |= serve_stale(alloc, graphs, callers, tables, stale, unit)?;
+        raised |= serve_stale(alloc, graphs, prepared, callers, tables, stale, unit)?;
     }
     Ok(raised)
 }

@@ -11,6 +11,7 @@
 mod calling;
 mod demands;
 mod graphs;
+mod preparing;
 mod programs;
 mod raising;
 mod serving;

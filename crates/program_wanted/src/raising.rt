@@ -8,13 +8,14 @@ ghost use Rattle.program_wanted.specs.Sweeps.{AreUnitAsks, CallsFitRows, FitsRow
 ghost use Rattle.program_wanted.specs.Tables.{demands_of};
 ghost use Rattle.program_wanted.specs.Demands.{asked_at};
 ghost use Rattle.wanted_bits.specs.Asks.{AreAsks};
+ghost use Rattle.wanted_bits.specs.Preparing.{IsPrepared};
 
 use crate::demands::{Tables, around};
 use crate::serving::mark;
 use flow_graph::{Graph, Node};
 use mir_base::Memory;
 use std::alloc::Global;
-use wanted_bits::{Widths, asks_around};
+use wanted_bits::{Prepared, Widths, asks_prepared};
 
 /// What a unit asks for.
 #[derive(Drop)]
@@ -31,15 +32,17 @@ pub(crate) struct UnitAsks {
 pub(crate) fn asks_of(
     alloc: Global,
     graph: &Graph,
+    prepared: &Prepared,
     tables: &Tables,
     unit: usize,
 ) -> Result<UnitAsks, Memory>
-    requires { unit < length tables.now.backs.items }
+    requires prepared { IsPrepared graph.now prepared.now }
+    requires there { unit < length tables.now.backs.items }
     ensures { IfOk result (λ asks.
         AreUnitAsks (asked_at (demands_of tables.now) graph.now.shared unit) graph.now asks) }
 {
     let around = around(tables, unit);
-    let calls = asks_around(alloc, graph, &around)?;
+    let calls = asks_prepared(alloc, graph, &around, prepared)?;
     let globals = entry_globals(alloc, calls.as_slice(), graph.shared())?;
     let arguments = entry_arguments(alloc, calls.as_slice(), graph.received())?;
     Ok(UnitAsks {

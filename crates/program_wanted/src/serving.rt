@@ -1,6 +1,7 @@
 // One unit that is served: what is asked for around units is raised to what it asks for.
 ghost use Rattle.std.specs.Prelude.{◌≡◌, ◌<◌, true, length, slice_set, IfOk, OnOk};
 ghost use Rattle.program_wanted.specs.Calling.{AreUnitCallers};
+ghost use Rattle.program_wanted.specs.Preparing.{ArePrepared};
 ghost use Rattle.program_wanted.specs.Stale.{AllStale, CallersMarked, FreshAreServed};
 ghost use Rattle.program_wanted.specs.Sweeps.{FitTogether, IsProgress, Serves};
 ghost use Rattle.program_wanted.specs.Tables.{demands_of};
@@ -11,18 +12,21 @@ use crate::raising::{asks_of, raise_backs};
 use flow_graph::Graph;
 use mir_base::Memory;
 use std::alloc::Global;
+use wanted_bits::Prepared;
 
 /// Raises the numbers to what a unit wants by them, if it is stale, and answers whether one was less. Units that may
 /// lack something then are stale.
 pub(crate) fn serve_stale(
     alloc: Global,
     graphs: &Vec<Graph>,
+    prepared: &Vec<Prepared>,
     callers: &Vec<Callers>,
     tables: &mut Tables,
     stale: &mut Vec<bool>,
     unit: usize,
 ) -> Result<bool, Memory>
     requires fit { FitTogether graphs.now.items }
+    requires prepared { ArePrepared graphs.now.items prepared.now.items }
     requires callers { AreUnitCallers graphs.now.items callers.now.items }
     requires progress { IsProgress graphs.now.items (demands_of tables.old) }
     requires fresh { FreshAreServed graphs.now.items (demands_of tables.old) stale.old.items }
@@ -33,7 +37,7 @@ pub(crate) fn serve_stale(
         (FreshAreServed graphs.now.items (demands_of tables.new) stale.new.items) }
 {
     if stale[unit] {
-        let raised = serve(alloc, graphs, callers, tables, stale, unit)?;
+        let raised = serve(alloc, graphs, prepared, callers, tables, stale, unit)?;
         Ok(raised)
     } else {
         Ok(false)
@@ -44,12 +48,14 @@ pub(crate) fn serve_stale(
 fn serve(
     alloc: Global,
     graphs: &Vec<Graph>,
+    prepared: &Vec<Prepared>,
     callers: &Vec<Callers>,
     tables: &mut Tables,
     stale: &mut Vec<bool>,
     unit: usize,
 ) -> Result<bool, Memory>
     requires fit { FitTogether graphs.now.items }
+    requires prepared { ArePrepared graphs.now.items prepared.now.items }
     requires callers { AreUnitCallers graphs.now.items callers.now.items }
     requires progress { IsProgress graphs.now.items (demands_of tables.old) }
     requires fresh { FreshAreServed graphs.now.items (demands_of tables.old) stale.old.items }
@@ -62,7 +68,8 @@ fn serve(
     let graph = &graphs[unit];
     let _nodes = graph.nodes();
     let _shared = graph.shared();
-    let asks = asks_of(alloc, graph, tables, unit)?;
+    let ready = &prepared[unit];
+    let asks = asks_of(alloc, graph, ready, tables, unit)?;
     stale[unit] = false;
     let entered = tables.globals[unit].raise_all(&asks.globals);
     let given = tables.arguments[unit].raise_all(&asks.arguments);

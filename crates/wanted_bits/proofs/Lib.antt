@@ -9,4 +9,5 @@ pub mod NewsJoins
 pub mod Keeping
 pub mod Noted
 pub mod Shapes
+pub mod PathsStay
 pub mod Listing

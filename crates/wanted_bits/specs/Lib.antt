@@ -19,12 +19,14 @@ pub mod Shifts
 pub mod ByRows
 pub mod WantedFlows
 pub mod Found
+pub mod Preparing
 pub mod Asks
 pub mod Before
 pub mod Chains
 pub mod ChainLaws
 pub mod RunsAgree
 pub mod Made
+pub mod NarrowedPaths
 pub mod NarrowedLaws
 pub mod NarrowedValues
 pub mod NarrowedSteps

@@ -5,15 +5,16 @@ ghost use Rattle.flow_graph.specs.Blocks.{IsBlock};
 ghost use Rattle.wanted_bits.specs.Asking.{asked_by};
 ghost use Rattle.wanted_bits.specs.Asks.{AreAsks, AreAsksBy, ask_past, back_list, into_bits, kept_bits};
 ghost use Rattle.wanted_bits.specs.BitsOrder.{HasFew};
-ghost use Rattle.wanted_bits.specs.Found.{AreBacks, NotesFrom};
+ghost use Rattle.wanted_bits.specs.Found.{NotesFrom};
+ghost use Rattle.wanted_bits.specs.Preparing.{IsPrepared};
 ghost use Rattle.wanted_bits.specs.Walking.{AreGraphNodes, back_in, bits_at, is_into};
 ghost use Rattle.wanted_bits.specs.WantedFlows.{AreCrossed, AreLeastBehind};
 
 use crate::around::{Around, Widths};
-use crate::backs::backs;
 use crate::lists::WantedList;
 use crate::picking::Shift;
-use crate::solving::{Crossed, crossings, least};
+use crate::preparing::Prepared;
+use crate::solving::{Crossed, least};
 use crate::walking::{number_of, pass_back};
 use fix_solve::Work;
 use flow_graph::{Graph, Node};
@@ -32,25 +33,33 @@ pub fn asks_around(
     ensures { IfOk result (λ asks.
         AreAsks (asked_by graph.now.shared around.now) graph.now asks.items) }
 {
-    let backs = backs(alloc, graph)?;
-    let asks = asks_by(alloc, graph, around, backs.as_slice())?;
+    let prepared = Prepared::of(alloc, graph)?;
+    let asks = asks_prepared(alloc, graph, around, &prepared)?;
     Ok(asks)
 }
 
-/// The same, where each right side shifts back what `backs` has for its node.
-fn asks_by(
+/// The same, where so much is made of the graph already. It fails only with `Memory`.
+pub fn asks_prepared(
     alloc: Global,
     graph: &Graph,
     around: &Around<'_>,
-    backs: &[Option<Shift>],
+    prepared: &Prepared,
 ) -> Result<Vec<Option<Widths>>, Memory>
-    requires { length backs.now ≡ length graph.now.nodes }
+    requires { IsPrepared graph.now prepared.now }
     ensures { IfOk result (λ asks.
-        AreAsksBy (asked_by graph.now.shared around.now) graph.now backs.now asks.items) }
+        AreAsks (asked_by graph.now.shared around.now) graph.now asks.items) }
 {
-    let crossed = crossings(alloc, graph)?;
-    let work = least(alloc, graph, around, &crossed, backs)?;
-    let asks = ask_all(alloc, graph, around, &crossed, backs, &work)?;
+    let crossed = &prepared.crossed;
+    let backs = prepared.backs.as_slice();
+    let work = least(
+        alloc,
+        graph,
+        around,
+        crossed,
+        backs,
+        prepared.touched.as_slice(),
+    )?;
+    let asks = ask_all(alloc, graph, around, crossed, backs, &work)?;
     Ok(asks)
 }
 

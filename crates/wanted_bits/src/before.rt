@@ -5,15 +5,16 @@ ghost use Rattle.wanted_bits.specs.Before.{AreBefore, AreWantedBefore, AreWanted
 ghost use Rattle.wanted_bits.specs.BitsOrder.{HasFew};
 ghost use Rattle.wanted_bits.specs.Chains.{AreCarried, AreCarriedBy};
 ghost use Rattle.wanted_bits.specs.Found.{NotesFrom};
+ghost use Rattle.wanted_bits.specs.Preparing.{IsPrepared};
 ghost use Rattle.wanted_bits.specs.Walking.{AreGraphNodes, back_in};
 ghost use Rattle.wanted_bits.specs.WantedFlows.{AreCrossed, AreLeastBehind};
 ghost use Rattle.wanted_bits.specs.Asking.{asked_by};
 
 use crate::around::{Around, Widths};
-use crate::backs::backs;
 use crate::lists::WantedList;
 use crate::picking::Shift;
-use crate::solving::{Crossed, crossings, least};
+use crate::preparing::Prepared;
+use crate::solving::{Crossed, least};
 use crate::walking::pass_back;
 use fix_solve::Work;
 use flow_graph::Graph;
@@ -61,25 +62,33 @@ pub fn wanted_before_in(
         AreCarriedBy (asked_by graph.now.shared around.now) graph.now rows.items) }
 {
     let _nodes = graph.nodes();
-    let backs = backs(alloc, graph)?;
-    let rows = rows_before(alloc, graph, around, backs.as_slice())?;
+    let prepared = Prepared::of(alloc, graph)?;
+    let rows = rows_before(alloc, graph, around, &prepared)?;
     Ok(rows)
 }
 
-/// The same, where each right side shifts back what `backs` has for its node.
+/// The same, where so much is made of the graph already.
 fn rows_before(
     alloc: Global,
     graph: &Graph,
     around: &Around<'_>,
-    backs: &[Option<Shift>],
+    prepared: &Prepared,
 ) -> Result<Vec<Widths>, Memory>
-    requires { length backs.now ≡ length graph.now.nodes }
-    ensures { IfOk result (λ rows.
-        AreBefore (asked_by graph.now.shared around.now) graph.now backs.now rows.items) }
+    requires { IsPrepared graph.now prepared.now }
+    ensures { IfOk result (λ rows. AreBefore (asked_by graph.now.shared around.now) graph.now
+        prepared.now.backs.items rows.items) }
 {
-    let crossed = crossings(alloc, graph)?;
-    let work = least(alloc, graph, around, &crossed, backs)?;
-    let rows = all_rows(alloc, graph, around, &crossed, backs, &work)?;
+    let crossed = &prepared.crossed;
+    let backs = prepared.backs.as_slice();
+    let work = least(
+        alloc,
+        graph,
+        around,
+        crossed,
+        backs,
+        prepared.touched.as_slice(),
+    )?;
+    let rows = all_rows(alloc, graph, around, crossed, backs, &work)?;
     Ok(rows)
 }
 

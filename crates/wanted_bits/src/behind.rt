@@ -4,13 +4,15 @@ ghost use Rattle.flow_graph.specs.Blocks.{IsBlock};
 ghost use Rattle.wanted_bits.specs.Asking.{asked_by};
 ghost use Rattle.wanted_bits.specs.BitsOrder.{HasFew};
 ghost use Rattle.wanted_bits.specs.Found.{AreBehind, NotesBlock};
+ghost use Rattle.wanted_bits.specs.Preparing.{IsPrepared};
 ghost use Rattle.wanted_bits.specs.Walking.{AreGraphNodes, back_in};
 ghost use Rattle.wanted_bits.specs.WantedFlows.{AreCrossed, AreLeastBehind};
 
 use crate::around::Around;
 use crate::lists::WantedList;
 use crate::picking::Shift;
-use crate::solving::{Crossed, crossings, least};
+use crate::preparing::Prepared;
+use crate::solving::{Crossed, least};
 use crate::walking::{assigned_bits, pass_back};
 use fix_solve::Work;
 use flow_graph::Graph;
@@ -18,21 +20,28 @@ use mir_base::Memory;
 use std::alloc::Global;
 
 /// For each node how many bits are wanted, behind it, of the variable to which it assigns a right side, by the least
-/// numbers. Each right side shifts back what `backs` has for its node.
+/// numbers.
 pub(crate) fn behind(
     alloc: Global,
     graph: &Graph,
     around: &Around<'_>,
-    backs: &[Option<Shift>],
+    prepared: &Prepared,
 ) -> Result<Vec<u8>, Memory>
-    requires { length backs.now ≡ length graph.now.nodes }
+    requires { IsPrepared graph.now prepared.now }
     ensures { IfOk result (λ behind. AreBehind graph.now
-        (asked_by graph.now.shared around.now) backs.now behind.items) }
+        (asked_by graph.now.shared around.now) prepared.now.backs.items behind.items) }
 {
-    let _nodes = graph.nodes();
-    let crossed = crossings(alloc, graph)?;
-    let work = least(alloc, graph, around, &crossed, backs)?;
-    let behind = note_all(alloc, graph, around, &crossed, backs, &work)?;
+    let crossed = &prepared.crossed;
+    let backs = prepared.backs.as_slice();
+    let work = least(
+        alloc,
+        graph,
+        around,
+        crossed,
+        backs,
+        prepared.touched.as_slice(),
+    )?;
+    let behind = note_all(alloc, graph, around, crossed, backs, &work)?;
     Ok(behind)
 }
 

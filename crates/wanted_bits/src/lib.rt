@@ -20,6 +20,7 @@ mod lists;
 mod narrowing;
 mod news;
 mod picking;
+mod preparing;
 mod raises;
 mod solving;
 mod touching;
@@ -27,7 +28,8 @@ mod walking;
 mod wanting;
 
 pub use around::{Around, Widths};
-pub use asks::asks_around;
+pub use asks::{asks_around, asks_prepared};
 pub use before::{wanted_before, wanted_before_in};
 pub use narrowing::{narrow, narrow_in};
 pub use picking::Shift;
+pub use preparing::Prepared;

@@ -7,14 +7,15 @@ ghost use Rattle.wanted_bits.specs.Found.{AreFoundNodes, AreListed, narrowed_by}
 ghost use Rattle.wanted_bits.specs.Asking.{argument_at, asked_by};
 ghost use Rattle.wanted_bits.specs.Made.{IsMadeNarrowed};
 ghost use Rattle.wanted_bits.specs.MostRemoved.{RemovesMost};
+ghost use Rattle.wanted_bits.specs.NarrowedPaths.{KeepsPaths};
 ghost use Rattle.wanted_bits.specs.RunsAgree.{RunsAgree};
 ghost use Rattle.wanted_bits.specs.Wanted.{all_asked};
 ghost use Rattle.wanted_bits.specs.Narrowed.{IsNarrowed, all_handed, handed, IsOnlyNarrowed, NarrowedStaysSplit, goes, is_itself};
 
 use crate::around::{Around, Widths};
-use crate::backs::backs;
 use crate::behind::behind;
 use crate::picking::Shift;
+use crate::preparing::Prepared;
 use crate::wanting::narrowed_past;
 use flow_graph::{Graph, Node};
 use mir_base::{Args, Memory, Operand, Rhs, divides};
@@ -40,6 +41,9 @@ pub fn narrow(alloc: Global, graph: &Graph) -> Result<Graph, Memory>
 
     // it has the name of the graph, does the same, evaluates no more operators, and makes no other calls
     ensures keeps { IfOk result (GraphKeeps graph.now) }
+
+    // it has the same paths from Start to a Return, and on none of them are more operators evaluated
+    ensures paths { IfOk result (KeepsPaths graph.now) }
 
     // along each run each variable agrees with what it was in the bits that are wanted
     ensures agrees { IfOk result (RunsAgree graph.now) }
@@ -89,9 +93,10 @@ fn found_nodes(alloc: Global, graph: &Graph, around: &Around<'_>) -> Result<Vec<
     ensures { IfOk result (λ nodes. AreFoundNodes (asked_by graph.now.shared around.now)
         graph.now nodes.items) }
 {
-    let backs = backs(alloc, graph)?;
-    let behind = behind(alloc, graph, around, backs.as_slice())?;
-    let nodes = listed_nodes(alloc, graph, around, backs.as_slice(), behind.as_slice())?;
+    let prepared = Prepared::of(alloc, graph)?;
+    let behind = behind(alloc, graph, around, &prepared)?;
+    let backs = prepared.backs.as_slice();
+    let nodes = listed_nodes(alloc, graph, around, backs, behind.as_slice())?;
     Ok(nodes)
 }
 

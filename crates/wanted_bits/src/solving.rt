@@ -11,7 +11,6 @@ use crate::flow::WantedFlow;
 use crate::lists::WantedList;
 use crate::news::SomeVariables;
 use crate::picking::Shift;
-use crate::touching::touched;
 use fix_solve::{Steps, Work, solve};
 use flow_graph::{Blocks, Edges, Graph};
 use mir_base::Memory;
@@ -37,16 +36,20 @@ pub(crate) fn crossings(alloc: Global, graph: &Graph) -> Result<Crossed, Memory>
     Ok(Crossed { blocks, between })
 }
 
-/// The least numbers of wanted bits behind each block, where each right side shifts back what `backs` has for its node.
+/// The least numbers of wanted bits behind each block, where each right side shifts back what `backs` has for its node,
+/// and `touched` has for each block what it touches.
 pub(crate) fn least(
     alloc: Global,
     graph: &Graph,
     around: &Around<'_>,
     crossed: &Crossed,
     backs: &[Option<Shift>],
+    touched: &[SomeVariables],
 ) -> Result<Work<WantedList>, Memory>
     requires crossed { AreCrossed graph.now crossed.now }
     requires backs { length backs.now ≡ length graph.now.nodes }
+    requires touched { AreTouched graph.now (back_in backs.now) crossed.now.blocks.lists
+        touched.now }
     ensures { IfOk result (AreLeastBehind graph.now
         (asked_by graph.now.shared around.now) crossed.now (back_in backs.now)) }
 {
@@ -54,23 +57,14 @@ pub(crate) fn least(
     if graph.vars().len() >= MOST_VARS {
         return Err(AllocError);
     }
-    let touched = touched(alloc, graph, &crossed.blocks, backs)?;
-    let work = least_from::<Brand>(
-        alloc,
-        graph,
-        around,
-        crossed,
-        backs,
-        touched.as_slice(),
-        Blank::new(1),
-    )?;
+    let work = least_from::<Brand>(alloc, graph, around, crossed, backs, touched, Blank::new(1))?;
     Ok(work)
 }
 
 /// The number of variables from which on ranks are not counted in 64 bits.
 const MOST_VARS: usize = 1 << 56;
 
-/// The same, with the counter that this blank ledger gives, where `touched` has for each block what it touches.
+/// The same, with the counter that this blank ledger gives.
 fn least_from<L: Ledger>(
     alloc: Global,
     graph: &Graph,

@@ -11,8 +11,18 @@ use Rattle.program_wanted.proofs.Rooms.{row_tells}
 use Rattle.program_wanted.proofs.UnitServes.{arguments_long, calls_fit, globals_long, unit_fresh, unit_serves}
 use Rattle.program_wanted.proofs.serving.serve.Goals as goal
 
-pub asks_of-requires : goal.asks_of-requires
-asks_of-requires c = omega (arith, c.requires.there, c.requires.progress.fit.backs.long)
+pub asks_of-requires-clause-prepared : goal.asks_of-requires-clause-prepared
+asks_of-requires-clause-prepared c =
+    let graphs = c.args.graphs.now.items in
+    let all = c.args.prepared.now.items in
+    let u = c.args.unit in
+    let graph = c.index-graph.result.now in
+    let ready = c.index-ready.result.now in
+    c.requires.prepared.are u graph ready (slice_get-get_or graphs u graph c.requires.there ∙ ap Some (sym c.index-graph.ensures))
+    (slice_get-get_or all u ready (omega (arith, c.requires.there, c.requires.prepared.long)) ∙ ap Some (sym c.index-ready.ensures))
+
+pub asks_of-requires-clause-there : goal.asks_of-requires-clause-there
+asks_of-requires-clause-there c = omega (arith, c.requires.there, c.requires.progress.fit.backs.long)
 
 pub raise_all-entered-requires : goal.raise_all-entered-requires
 raise_all-entered-requires c =

@@ -9,9 +9,8 @@ pub returns-clause-wanted : goal.returns-clause-wanted
 returns-clause-wanted c =
     let graph = c.args.graph.now in
     let asked = asked_by graph.shared c.args.around.now in
-    let backs = c.in_ok-backs.ensures in
-    let by : AreBefore asked graph c.in_ok-backs.backs.items c.in_ok-rows.rows.items =
-    subst (λ l. AreBefore asked graph l c.in_ok-rows.rows.items) c.as_slice.ensures.value c.in_ok-rows.ensures in
+    let backs = c.in_ok-prepared.ensures.backs in
+    let by : AreBefore asked graph c.in_ok-prepared.prepared.backs.items c.in_ok-rows.rows.items = c.in_ok-rows.ensures in
     let numbers = by backs.shifts backs.have in
     record { shifts = backs.shifts; tell = backs.shifts_are; wanted = numbers.0; least = numbers.1; are = numbers.2 }
 
@@ -19,9 +18,8 @@ pub returns-clause-carried : goal.returns-clause-carried
 returns-clause-carried c =
     let graph = c.args.graph.now in
     let asked = asked_by graph.shared c.args.around.now in
-    let backs = c.in_ok-backs.ensures in
-    let by : AreBefore asked graph c.in_ok-backs.backs.items c.in_ok-rows.rows.items =
-    subst (λ l. AreBefore asked graph l c.in_ok-rows.rows.items) c.as_slice.ensures.value c.in_ok-rows.ensures in
+    let backs = c.in_ok-prepared.ensures.backs in
+    let by : AreBefore asked graph c.in_ok-prepared.prepared.backs.items c.in_ok-rows.rows.items = c.in_ok-rows.ensures in
     let numbers = by backs.shifts backs.have in
     let can = subst (λ l. CanMake graph.vars graph.received l) c.nodes-nodes.ensures.value c.nodes-nodes.ensures.graph.can in
     record {

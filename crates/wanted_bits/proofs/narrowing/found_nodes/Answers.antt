@@ -8,12 +8,12 @@ pub returns : goal.returns
 returns c =
     let graph = c.args.graph.now in
     let asked = asked_by graph.shared c.args.around.now in
-    let backs = c.in_ok-backs.ensures in
-    let found : AreBehind graph asked c.in_ok-backs.backs.items c.in_ok-behind.behind.items =
-    subst (λ l. AreBehind graph asked l c.in_ok-behind.behind.items) c.as_slice.ensures.value c.in_ok-behind.ensures in
-    let listed : AreListed graph asked c.in_ok-backs.backs.items c.in_ok-behind.behind.items c.in_ok-nodes.nodes.items =
-    subst (λ l. AreListed graph asked c.in_ok-backs.backs.items l c.in_ok-nodes.nodes.items) c.as_slice-3.ensures.value
-    (subst (λ l. AreListed graph asked l c.as_slice-3.result.now c.in_ok-nodes.nodes.items) c.as_slice-2.ensures.value c.in_ok-nodes.ensures) in
+    let listed_backs = c.in_ok-prepared.prepared.backs.items in
+    let backs = c.in_ok-prepared.ensures.backs in
+    let found : AreBehind graph asked listed_backs c.in_ok-behind.behind.items = c.in_ok-behind.ensures in
+    let listed : AreListed graph asked listed_backs c.in_ok-behind.behind.items c.in_ok-nodes.nodes.items =
+    subst (λ l. AreListed graph asked listed_backs l c.in_ok-nodes.nodes.items) c.as_slice.ensures.value
+    (subst (λ l. AreListed graph asked l c.as_slice.result.now c.in_ok-nodes.nodes.items) c.as_slice-backs.ensures.value c.in_ok-nodes.ensures) in
     let numbers = found.are backs.shifts backs.have in
     record {
       shifts = backs.shifts;
@@ -21,5 +21,5 @@ returns c =
       shifts_are = backs.shifts_are;
       shifts_hold = backs.shifts_hold;
       least = numbers.1;
-      nodes_are = nodes_become graph asked backs.shifts c.in_ok-backs.backs.items backs.have numbers.0 c.in_ok-behind.behind.items numbers.2 c.in_ok-nodes.nodes.items listed;
+      nodes_are = nodes_become graph asked backs.shifts listed_backs backs.have numbers.0 c.in_ok-behind.behind.items numbers.2 c.in_ok-nodes.nodes.items listed;
     }

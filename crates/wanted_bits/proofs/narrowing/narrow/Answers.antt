@@ -9,6 +9,7 @@ use Rattle.wanted_bits.specs.Narrowed.{AreNarrowed}
 use Rattle.wanted_bits.specs.RunsAgree.{AgreeThere, frame_after}
 use Rattle.wanted_bits.specs.Wanted.{all_asked}
 use Rattle.wanted_bits.proofs.Locksteps.{narrowed_cheaper, narrowed_same, runs_agree}
+use Rattle.wanted_bits.proofs.PathsStay.{paths_keep}
 use Rattle.wanted_bits.proofs.narrowing.narrow.Goals as goal
 
 pub returns-clause-keeps : goal.returns-clause-keeps
@@ -29,6 +30,11 @@ returns-clause-keeps c =
       cheaper = subst (UnitCheaper (machine_of graph)) machine (narrowed_cheaper graph can narrowed.nodes are);
       calls = made.calls;
     }
+
+pub returns-clause-paths : goal.returns-clause-paths
+returns-clause-paths c =
+    let found = c.in_ok-narrowed.ensures.found in
+    paths_keep all_asked c.args.graph.now c.in_ok-narrowed.narrowed (record { shifts = found.shifts; wanted = found.wanted; shifts_hold = found.shifts_hold; are_wanted = found.least.are; nodes_are = found.nodes_are })
 
 pub returns-clause-agrees : goal.returns-clause-agrees
 returns-clause-agrees c =

@@ -1,0 +1,18 @@
+use Rattle.std.proofs.Common.{sym, subst}
+use Rattle.wanted_bits.specs.Asking.{asked_by}
+use Rattle.wanted_bits.specs.Before.{AreBefore}
+use Rattle.wanted_bits.specs.Touching.{AreTouched}
+use Rattle.wanted_bits.specs.Walking.{back_in}
+use Rattle.wanted_bits.proofs.before.rows_before.Goals as goal
+
+pub least-requires-clause-touched : goal.least-requires-clause-touched
+least-requires-clause-touched c =
+    let graph = c.args.graph.now in
+    let prepared = c.args.prepared.now in
+    subst (λ l. AreTouched graph (back_in l) prepared.crossed.blocks.lists c.as_slice.result.now) (sym c.as_slice-backs.ensures.value)
+    (subst (AreTouched graph (back_in prepared.backs.items) prepared.crossed.blocks.lists) (sym c.as_slice.ensures.value) c.requires.touched)
+
+pub returns : goal.returns
+returns c =
+    let graph = c.args.graph.now in
+    subst (λ l. AreBefore (asked_by graph.shared c.args.around.now) graph l c.in_ok-rows.rows.items) c.as_slice-backs.ensures.value c.in_ok-rows.ensures
