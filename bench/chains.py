@@ -25,7 +25,7 @@ from interpret import LEAST, Machine, Report
 
 TOP = Path(__file__).resolve().parent.parent
 PASSES = ('tails join arguments optimise clean fold number copies motion divisions sink comparisons terms bounds '
-          'extensions unread wanted demanded called').split()
+          'extensions unread wanted demanded known called').split()
 
 # The steps of the source, and those of the target, in which insertions and copies of joined units take some.
 STEPS, MORE_STEPS = 400, 8_000

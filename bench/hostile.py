@@ -38,10 +38,10 @@ BYTES, INSTRUCTIONS, UNITS = 1_048_576, 16_384, 256
 COMMANDS = ('optimise', 'stages', 'move', 'ranges', 'divisions', 'tails', 'join', 'thorough', 'passes wanted',
             'passes fold', 'passes number', 'passes copies', 'passes sink', 'passes comparisons',
             'passes terms', 'passes bounds', 'passes extensions', 'passes unread', 'passes arguments',
-            'passes demanded', 'passes 64', 'run 1000000')
+            'passes demanded', 'passes known', 'passes 64', 'run 1000000')
 
 PASSES = ('tails join arguments optimise clean fold number copies motion divisions sink comparisons terms bounds '
-          'extensions unread wanted demanded called').split()
+          'extensions unread wanted demanded known called').split()
 
 # The most passes of a chain, and the chains of so many: all in turn, each alone, and three that are drawn.
 MOST_PASSES = 64

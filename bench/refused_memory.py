@@ -120,7 +120,7 @@ end
 """
 
 PASSES = ('tails join arguments clean fold number copies motion divisions sink comparisons terms bounds extensions '
-          'unread wanted demanded optimise called').split()
+          'unread wanted demanded known optimise called').split()
 CALLS = [
     Call(['optimise'], CALLING),
     Call(['move'], CALLING),

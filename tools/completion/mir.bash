@@ -4,7 +4,7 @@
 _mir() {
     local word=${COMP_WORDS[COMP_CWORD]} before=${COMP_WORDS[COMP_CWORD - 1]}
     local commands='optimise stages move ranges divisions tails join thorough passes run trial'
-    local passes='tails join arguments optimise clean fold number copies motion divisions sink comparisons terms bounds extensions unread wanted demanded called'
+    local passes='tails join arguments optimise clean fold number copies motion divisions sink comparisons terms bounds extensions unread wanted demanded known called'
     local tables='optimise divisions tails join bounds wanted demanded'
     COMPREPLY=()
     if [[ $before == -o ]]; then

@@ -3,7 +3,7 @@ use Rattle.std.specs.Prelude.{ℕ, Bool, ◌&&◌, List, [], ◌∷◌, map, len
 use Rattle.std.specs.List.{list_all}
 use Rattle.mir_base.specs.Words.{is_text}
 use Rattle.pass_chain.specs.declared.passes.Pass.{Pass}
-use Rattle.pass_chain.specs.declared.passes.Pass.TheVariants.{Tails, Join, Arguments, Optimise, Clean, Fold, Number, Copies, Motion, Divisions, Sink, Comparisons, Terms, Bounds, Extensions, Unread, Wanted, Demanded, Called}
+use Rattle.pass_chain.specs.declared.passes.Pass.TheVariants.{Tails, Join, Arguments, Optimise, Clean, Fold, Number, Copies, Motion, Divisions, Sink, Comparisons, Terms, Bounds, Extensions, Unread, Wanted, Demanded, Known, Called}
 
 -- the most passes of a call
 abbrev pub most_passes : ℕ
@@ -30,6 +30,7 @@ pass_of word =
     if is_text (codes "unread") word then Some Unread else
     if is_text (codes "wanted") word then Some Wanted else
     if is_text (codes "demanded") word then Some Demanded else
+    if is_text (codes "known") word then Some Known else
     if is_text (codes "called") word then Some Called else None
 
 -- a word is that of a pass

@@ -94,6 +94,8 @@ fn pass_of(word: &[u8]) -> Option<Pass>
         Some(Pass::Wanted)
     } else if is_text(b"demanded", word) {
         Some(Pass::Demanded)
+    } else if is_text(b"known", word) {
+        Some(Pass::Known)
     } else if is_text(b"called", word) {
         Some(Pass::Called)
     } else {

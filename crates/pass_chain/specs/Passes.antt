@@ -22,9 +22,10 @@ use Rattle.mir_opt.specs.declared.trails.MoveTrail.{MoveTrail}
 use Rattle.mir_opt.specs.declared.trails.Trail.{Trail}
 use Rattle.mir_opt.specs.Links.{IsDivisionLinked, IsLinked, IsMoveLinked}
 use Rattle.called_units.specs.CalledUnits.{HasCalledUnits}
+use Rattle.program_bounds.specs.Programs.{IsBoundedProgram}
 use Rattle.program_wanted.specs.WantedPrograms.{IsWantedProgram}
 use Rattle.pass_chain.specs.declared.passes.Pass.{Pass}
-use Rattle.pass_chain.specs.declared.passes.Pass.TheVariants.{Tails, Join, Arguments, Optimise, Clean, Fold, Number, Copies, Motion, Divisions, Sink, Comparisons, Terms, Bounds, Extensions, Unread, Wanted, Demanded, Called}
+use Rattle.pass_chain.specs.declared.passes.Pass.TheVariants.{Tails, Join, Arguments, Optimise, Clean, Fold, Number, Copies, Motion, Divisions, Sink, Comparisons, Terms, Bounds, Extensions, Unread, Wanted, Demanded, Known, Called}
 
 -- ---- passes on graphs
 
@@ -89,6 +90,7 @@ IsPassedBy Extensions = PassesGraphs IsExtended
 IsPassedBy Unread = PassesGraphs IsUnread
 IsPassedBy Wanted = PassesGraphs IsNarrowed
 IsPassedBy Demanded = IsWantedProgram
+IsPassedBy Known = IsBoundedProgram
 IsPassedBy Called = HasCalledUnits
 
 -- the target is the exact result of these passes on the source one after another, from the first to the last

@@ -9,7 +9,8 @@ use crate::graph_passes::{
 };
 use crate::over_units::program_through;
 use crate::whole::{
-    demanded, divided, joined, looped, moved, optimised, with_called_units, with_constant_arguments,
+    bounded, demanded, divided, joined, looped, moved, optimised, with_called_units,
+    with_constant_arguments,
 };
 use mir_base::{Memory, Program};
 use std::alloc::Global;
@@ -53,6 +54,9 @@ pub enum Pass {
     Wanted,
     /// What no unit of the program wants of another goes.
     Demanded,
+    /// What the bounds of values decide, where units know what others hand over and back, stands in the place of what is
+    /// computed.
+    Known,
     /// The units that no call leads to go.
     Called,
 }
@@ -60,9 +64,9 @@ pub enum Pass {
 /// What a pass makes of a program. It is the same, evaluates no more operators, and never has more frames. It fails only
 /// with `Memory`.
 ///
-/// `Tails`, `Join`, `Arguments`, `Demanded` and `Called` make what `tail_program`, `join_program`,
-/// `constant_arguments`, `wanted_program` and `called_program` make, and `Optimise`, `Motion` and `Divisions` the targets
-/// of `optimise`, `motion` and `divisions`.
+/// `Tails`, `Join`, `Arguments`, `Demanded`, `Known` and `Called` make what `tail_program`, `join_program`,
+/// `constant_arguments`, `wanted_program`, `bounded_program` and `called_program` make, and `Optimise`, `Motion` and
+/// `Divisions` the targets of `optimise`, `motion` and `divisions`.
 /// The others are passes on graphs: each unit is lowered, cleaned, passed, cleaned and laid out. `Clean` does nothing
 /// in between, and `Sink` splits the graph and then makes its rounds.
 pub fn pass_program(alloc: Global, pass: Pass, program: &Program) -> Result<Program, Memory>
@@ -97,6 +101,7 @@ fn passed(alloc: Global, pass: Pass, program: &Program) -> Result<Program, Memor
         Pass::Unread => program_through::<Omitting>(alloc, program),
         Pass::Wanted => program_through::<Narrowing>(alloc, program),
         Pass::Demanded => demanded(alloc, program),
+        Pass::Known => bounded(alloc, program),
         Pass::Called => with_called_units(alloc, program),
     }
 }

@@ -3,6 +3,7 @@ ghost use Rattle.std.specs.Prelude.{IfOk};
 ghost use Rattle.program_pass.specs.PassPrograms.{IsPassedProgram, Rewrites};
 ghost use Rattle.called_units.specs.CalledUnits.{HasCalledUnits};
 ghost use Rattle.constant_args.specs.ConstantArguments.{HasConstantArguments};
+ghost use Rattle.program_bounds.specs.Programs.{IsBoundedProgram};
 ghost use Rattle.program_wanted.specs.WantedPrograms.{IsWantedProgram};
 ghost use Rattle.tail_loop.specs.Tails.{Tailed};
 ghost use Rattle.pass_chain.specs.Passes.{HasDivisionsMoved, IsMoved, IsOptimised};
@@ -12,6 +13,7 @@ use called_units::called_program;
 use constant_args::constant_arguments;
 use mir_base::{Memory, Program};
 use mir_opt::{MoveTrail, Trail, divisions, motion, optimise};
+use program_bounds::bounded_program;
 use program_wanted::wanted_program;
 use std::alloc::Global;
 use tail_loop::tail_program;
@@ -38,6 +40,14 @@ pub(crate) fn demanded(alloc: Global, program: &Program) -> Result<Program, Memo
     ensures { IfOk result (Rewrites IsWantedProgram program.now) }
 {
     let target = wanted_program(alloc, program)?;
+    Ok(target)
+}
+
+/// The program in which units know between which numbers lies what others hand over and back.
+pub(crate) fn bounded(alloc: Global, program: &Program) -> Result<Program, Memory>
+    ensures { IfOk result (Rewrites IsBoundedProgram program.now) }
+{
+    let target = bounded_program(alloc, program)?;
     Ok(target)
 }
 

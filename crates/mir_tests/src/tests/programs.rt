@@ -92,6 +92,7 @@ fn pass_named(name: &str) -> Option<Pass> {
         "unread" => Some(Pass::Unread),
         "wanted" => Some(Pass::Wanted),
         "demanded" => Some(Pass::Demanded),
+        "known" => Some(Pass::Known),
         "called" => Some(Pass::Called),
         _ => None,
     }

@@ -190,10 +190,10 @@ end
 main: begin
 end
 $ passes tails join arguments optimise clean fold number copies motion divisions sink comparisons terms bounds \
-extensions unread wanted demanded called tails join arguments optimise clean fold number copies motion divisions sink \
-comparisons terms bounds extensions unread wanted demanded called tails join arguments optimise clean fold number \
-copies motion divisions sink comparisons terms bounds extensions unread wanted demanded called tails join arguments \
-optimise clean fold number
+extensions unread wanted demanded known called tails join arguments optimise clean fold number copies motion divisions \
+sink comparisons terms bounds extensions unread wanted demanded known called tails join arguments optimise clean fold \
+number copies motion divisions sink comparisons terms bounds extensions unread wanted demanded known called tails join \
+arguments optimise
 @ 0
 main: begin
 return 0

@@ -1,0 +1,6 @@
+pub mod Rows
+pub mod SweepLaws
+pub mod Raises
+pub mod LessKnown
+pub mod ServeLaws
+pub mod Starts

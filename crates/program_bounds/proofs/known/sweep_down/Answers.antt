@@ -1,0 +1,15 @@
+use Rattle.std.proofs.Common.{◌<◌, ◌+◌, inl, inr, arith}
+use Rattle.std.proofs.lemmas.Bool.{cases_eq}
+use Rattle.program_bounds.specs.Tables.{facts_of}
+use Rattle.program_bounds.proofs.SweepLaws.{sweeps_more, sweeps_none}
+use Rattle.program_bounds.proofs.known.sweep_down.Goals as goal
+
+pub loop-unit-init : goal.loop-unit-init
+loop-unit-init c = sweeps_none c.args.graphs.now.items (λ v. v < 0) (facts_of c.args.tables.now) (λ v lt. omega (arith, lt)) c.requires.progress
+
+pub loop-unit-preserved : goal.loop-unit-preserved
+loop-unit-preserved c = sweeps_more c.args.graphs.now.items (λ v. v < c.loop-unit.unit) (λ v. v < c.loop-unit.unit + 1) c.loop-unit.unit (facts_of c.args.tables.now) (facts_of c.loop-unit.tables) (facts_of c.serve.new.tables) c.loop-unit.raised _
+    (λ v lt. elim (cases_eq v c.loop-unit.unit) [
+      | inl e ↦ inr e
+      | inr ne ↦ inl (omega (arith, lt, ne))
+    ]) c.loop-unit.invariant c.in_ok-raised.ensures

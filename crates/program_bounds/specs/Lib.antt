@@ -1,0 +1,6 @@
+pub mod Facts
+pub mod Tables
+pub mod Sweeps
+pub mod Programs
+pub mod BoundStacks
+pub mod ProgramLaws
