@@ -6,7 +6,8 @@ use Rattle.mir_base.specs.declared.instructions.Operand.{Operand}
 use Rattle.mir_base.specs.declared.instructions.Rhs.TheVariants.{Plain}
 use Rattle.mir_base.specs.Frames.{Answer, CallEntry, Frame, Transition, Continues, Prints, Calls, Returns, Traps, Values, resumed, shared_vars}
 use Rattle.mir_base.specs.FrameLaws.{FrameFits}
-use Rattle.mir_base.specs.UnitRuns.{IsCallAnswer}
+use Rattle.mir_base.specs.Runs.{AreNumbers}
+use Rattle.mir_base.specs.UnitRuns.{AreGlobals, IsCallAnswer}
 use Rattle.flow_graph.specs.declared.nodes.Node.{Node}
 use Rattle.flow_graph.specs.declared.nodes.Node.TheVariants.{Start, Skip, Assign, Print, Guard, Call, Test, Return}
 use Rattle.flow_graph.specs.Graphs.{AllWithin, GraphShape}
@@ -86,6 +87,9 @@ pub record IsHandedOver {K : Type 0} (holds : K → ℤ → Type 0) (rules : Rul
   pub state : states place ≡ Knows known
   pub holds_of : AreHeld holds rules (handed rules shared operands known)
       (values_in (entry_values entry))
+  pub long : length entry.arguments ≡ length operands
+  pub numbers : AreNumbers entry.arguments
+  pub globals : AreGlobals shared entry.globals
 
 -- a frame at this place returns, and what is known before the node holds of its answer
 pub record IsHandedBack {K : Type 0} (holds : K → ℤ → Type 0) (rules : Rules K) (shared : ℕ)
@@ -96,6 +100,7 @@ pub record IsHandedBack {K : Type 0} (holds : K → ℤ → Type 0) (rules : Rul
   pub state : states place ≡ Knows known
   pub holds_of : AreHeld holds rules (handed rules shared (operand ∷ []) known)
       (values_in (answer_values answer))
+  pub is_answer : IsCallAnswer shared answer
 
 -- what is known of the arguments, behind so many globals, where the unit is entered holds of these
 abbrev pub ArgumentsHold : {K : Type 0} → (K → ℤ → Type 0) → Rules K → ℕ → List ℤ → Type 0

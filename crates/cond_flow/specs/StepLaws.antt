@@ -2,19 +2,20 @@
 -- where what is known outside holds of what the unit is entered with and of what calls answer. For proofs only, of the
 -- crates above too.
 use Rattle.std.proofs.Common.{◌≡◌, ℕ, ◌+◌, ◌≤◌, ◌<◌, Bool, true, false, if◌then◌else◌, nat_eq, List, [], ◌∷◌, length, slice_get, slice_index_or, ℤ, Option, Some, None, option_map, refl, sym, ap, ◌∙◌, subst, arith, FitsSigned, w64}
+use Rattle.std.proofs.lemmas.List.{length-map}
 use Rattle.std.proofs.lemmas.List.Elements.{All-append, All-cons, All-nil}
 use Rattle.mir_base.specs.declared.instructions.Rhs.{Rhs}
 use Rattle.mir_base.specs.declared.instructions.Test as tests
 use Rattle.mir_base.specs.declared.operators.Trap.TheVariants.{ZeroDivisor, Raised}
 use Rattle.mir_base.specs.Frames.{Values, Answer, CallEntry, first_frame, shared_values, shared_vars, with_first, all_zero, with_value, Frame, resumed, Transition, Continues, Prints, Calls, Returns, Traps}
 use Rattle.mir_base.specs.Runs.{AreNumbers}
-use Rattle.mir_base.specs.Units.{test_holds, at, assigned, guard_transition}
+use Rattle.mir_base.specs.Units.{test_holds, at, assigned, guard_transition, operand_value}
 use Rattle.mir_base.specs.Expressions.{rhs_traps, rhs_value, rhs_count}
 use Rattle.mir_base.specs.ExpressionLaws.{assign_is}
 use Rattle.mir_base.specs.UnitRuns.{IsCallAnswer, UnitSame, UnitCheaper}
 use Rattle.mir_base.specs.Locksteps.{Alike, Lockstep}
 use Rattle.mir_base.specs.LockstepLaws.{lockstep_same, lockstep_cheaper}
-use Rattle.mir_base.specs.FrameLaws.{FrameFits, rhs_fits, first_fits, at_fits, assigned_fits, resumed_fits, shared_values_fit, with_first_fits}
+use Rattle.mir_base.specs.FrameLaws.{FrameFits, rhs_fits, first_fits, at_fits, assigned_fits, resumed_fits, shared_values_fit, with_first_fits, operand_fits, operands_fit}
 use Rattle.flow_graph.specs.declared.nodes.Node.{Node}
 use Rattle.flow_graph.specs.declared.nodes.Node.TheVariants.{Start, Skip, Assign, Print, Guard, Call, Test, Return}
 use Rattle.flow_graph.specs.Graphs.{IsEdge, node_succs, succs_of, slot_of}
@@ -171,7 +172,7 @@ module _ {K : Type 0} {below : K → K → Type 0} {holds : K → ℤ → Type 0
     at_node (Call into unit operands next) here = (
       refl,
       ap (λ vs. record { arguments = vs; globals = shared_values shared f.values }) (sym (operands_same laws.rewriting ks f.values operands held fits.values)),
-      record { into = into; operands = operands; next = next; known = ks; here = here; state = known; holds_of = held_handed laws.order laws.rising laws.sound shared operands ks f.values held fits.values },
+      record { into = into; operands = operands; next = next; known = ks; here = here; state = known; holds_of = held_handed laws.order laws.rising laws.sound shared operands ks f.values held fits.values; long = length-map operands (operand_value f.values); numbers = operands_fit f.values operands fits.values; globals = shared_values_fit shared f.values fits.values },
       λ a one back. together (resumed into a (at next f)) 0 (resumed_arguments into a (at next f)) (subst (IsEdge nodes f.place 0) (sym (resumed_place into a (at next f))) (leads_to (Call into unit operands next) 0 next here refl))
           (subst (λ p. HoldsAt holds rules (states p) (resumed into a (at next f)).values) (sym (resumed_place into a (at next f)))
           (after_edge f.place 0 next ks (Call into unit operands next) (resumed into a (at next f)).values known here refl refl (resumed_held into unit a next one back)))
@@ -191,7 +192,7 @@ module _ {K : Type 0} {below : K → K → Type 0} {holds : K → ℤ → Type 0
             (at_fits (if b then taken else other) f fits))
     at_node (Return a) here = (
       ap (λ v. record { value = v; globals = shared_values shared f.values }) (sym (laws.rewriting.operand_same ks f.values a held fits.values)),
-      λ lt. record { operand = a; known = ks; here = here; state = known; holds_of = held_handed laws.order laws.rising laws.sound shared (a ∷ []) ks f.values held fits.values },
+      λ lt. record { operand = a; known = ks; here = here; state = known; holds_of = held_handed laws.order laws.rising laws.sound shared (a ∷ []) ks f.values held fits.values; is_answer = record { number = operand_fits f.values a fits.values; globals = shared_values_fit shared f.values fits.values } },
     )
 
     at_place : (o : Option Node) → slice_get nodes f.place ≡ o → AlikeHere (node_transition shared received o f) (node_transition shared received (option_map (node_becomes rules ks) o) f)
