@@ -442,4 +442,84 @@ $ run 1000 3
 Ended(1) 7 []
 $ demanded run 1000 3
 Ended(1) 4 []
+# what is known of an argument and of a global decides tests in the called unit, and what it hands back one of the caller
+global limit
+main: begin
+receive n(val)
+limit <- 50
+x <- wide,(3,int)
+y <- wide,(7,int)
+if x > 127 goto L1
+z <- x + y
+print z
+L1: return n
+end
+wide: begin
+receive k(val)
+if limit < 0 goto L1
+r <- k * 16
+if k < 1 goto L1
+r <- r and 127
+return r
+L1: print k
+return 0
+end
+$ known
+global limit
+main: begin
+receive n(val)
+limit <- 50
+x <- wide,(3,int)
+y <- wide,(7,int)
+z <- x + y
+print z
+return n
+end
+wide: begin
+receive k(val)
+r <- k * 16
+r <- r and 127
+return r
+end
+$ bounds
+same
+$ run 100 4
+Ended(4) 5 [160]
+$ known run 100 4
+Ended(4) 5 [160]
+# a recursion that always hands back 1: its calls give 1
+main: begin
+receive n(val)
+x <- one,(5,int)
+return x
+end
+one: begin
+receive k(val)
+if k > 0 goto L1
+return 1
+L1: j <- k - 1
+t <- one,(j,int)
+if t < 1 goto L2
+return t
+L2: print k
+return 1
+end
+$ known
+main: begin
+receive n(val)
+x <- one,(5,int)
+return 1
+end
+one: begin
+receive k(val)
+if k > 0 goto L1
+return 1
+L1: j <- k - 1
+t <- one,(j,int)
+return 1
+end
+$ run 1000 4
+Ended(1) 5 []
+$ known run 1000 4
+Ended(1) 5 []
 ";
