@@ -16,8 +16,10 @@ use Rattle.flow_graph.specs.Machines.{graph_code, node_transition}
 use Rattle.held_assign.specs.HeldValues.{AgreesThere}
 use Rattle.term_flow.specs.declared.reading.ByConstant.{ByConstant}
 use Rattle.term_flow.specs.Termed.{AreTermed, IsHeldTerm, joined_rhs, termed_node}
+use Rattle.term_flow.specs.Orders.{in_order}
 use Rattle.term_flow.specs.Terms.{joined_of, joined_to, read_rhs}
 use Rattle.term_flow.proofs.JoinLaws.{joined_gives}
+use Rattle.term_flow.proofs.OrderLaws.{order_alike}
 use Rattle.term_flow.proofs.RunLaws.{AsCheap, as_cheap}
 use Rattle.term_flow.proofs.TermLaws.{reads}
 
@@ -30,6 +32,12 @@ record Becomes (values : Values) (rhs new : Rhs) : Type 0 where
 -- a right side that stays
 stays : (values : Values) (rhs : Rhs) → Becomes values rhs rhs
 stays values rhs = record { traps = refl; value = refl; counted = le_refl (rhs_count rhs) }
+
+-- and with its operands in order it does the same
+ordered : (values : Values) (rhs new : Rhs) → Becomes values rhs new → Becomes values rhs (in_order new)
+ordered values rhs new is =
+    let alike = order_alike values new in
+    record { traps = alike.traps ∙ is.traps; value = alike.value ∙ is.value; counted = omega (arith, alike.counted, is.counted) }
 
 -- so does the assignment
 assigns_cheap : (x : ℕ) (rhs new : Rhs) (next : ℕ) (f : Frame) → Becomes f.values rhs new → AsCheap (assign_transition x rhs next f) (assign_transition x new next f)
@@ -58,7 +66,7 @@ module _ (graph : GraphShape) (f : Frame) (held : ℕ → Option Rhs) (is_held :
 
   -- any right side
   rhs_becomes : (rhs : Rhs) → Becomes f.values rhs (joined_rhs held rhs)
-  rhs_becomes rhs = by (read_rhs rhs) refl
+  rhs_becomes rhs = ordered f.values rhs (unwrap_or (joined_of held (read_rhs rhs)) rhs) (by (read_rhs rhs) refl)
     where
       instead : (o : Option Rhs) → ((new : Rhs) → o ≡ Some new → Becomes f.values rhs new) → Becomes f.values rhs (unwrap_or o rhs)
       instead None is = stays f.values rhs

@@ -1,5 +1,5 @@
 -- The termed graph has the shape of the graph: the same edges, no other calls and divisions, and variables of the graph.
-use Rattle.std.proofs.Common.{◌≡◌, ℕ, suc, ◌<◌, true, List, [], ◌∷◌, length, slice_get, Option, Some, None, option_map, refl, sym, ap, ◌∙◌, subst, ℤ}
+use Rattle.std.proofs.Common.{◌≡◌, ℕ, suc, ◌<◌, ◌&&◌, if◌then◌else◌, true, List, [], ◌∷◌, length, slice_get, Option, Some, None, option_map, refl, sym, ap, ◌∙◌, subst, ℤ}
 use Rattle.std.specs.Option.{unwrap_or}
 use Rattle.std.proofs.lemmas.Bool.{and_parts}
 use Rattle.mir_base.specs.declared.operators.Op.{Op}
@@ -23,8 +23,10 @@ use Rattle.flow_graph.specs.Graphs.{GraphShape, IsEdge, Reached, at_start, along
 use Rattle.flow_graph.specs.NodeLaws.{mapped_from}
 use Rattle.term_flow.specs.declared.reading.ByConstant.{ByConstant}
 use Rattle.term_flow.specs.Termed.{AreTermed, joined_rhs, termed_node}
+use Rattle.term_flow.specs.Orders.{in_order, is_turned}
 use Rattle.term_flow.specs.Terms.{joined_of, joined_to, left_read, read_binary, read_rhs, right_read}
 use Rattle.term_flow.proofs.JoinLaws.{held_gives}
+use Rattle.term_flow.proofs.OrderLaws.{order_below, unturned}
 use Rattle.term_flow.proofs.TermLaws.{reads}
 
 -- ---- one node
@@ -65,22 +67,22 @@ module _ (held : ℕ → Option Rhs) where
 
 -- ---- variables of a node
 
--- what joins a right side to what its variable holds reads the variables of that
-joined_vars : (rhs : Rhs) (t : ByConstant) → read_rhs rhs ≡ Some t → (held new : Rhs) → joined_to t (Some held) ≡ Some new → rhs_vars new ≡ rhs_vars held
-joined_vars rhs t is held new e =
+-- what joins a right side to what its variable holds reads no other variables than that
+joined_below : (k : ℕ) (rhs : Rhs) (t : ByConstant) → read_rhs rhs ≡ Some t → (held new : Rhs) → joined_to t (Some held) ≡ Some new → AllBelow k (rhs_vars held) → AllBelow k (rhs_vars new)
+joined_below k rhs t is held new e =
     let r = reads all_zero rhs t is in
     let g = held_gives all_zero (record { fit = λ x. zero_fits }) t r.fits held new e in
-    g.reads
+    g.reads k
 
 module _ (k : ℕ) (held : ℕ → Option Rhs) (low : (v : ℕ) (rhs : Rhs) → held v ≡ Some rhs → AllBelow k (rhs_vars rhs)) where
   -- that of a right side that is held reads variables below
   held_below : (rhs : Rhs) (t : ByConstant) → read_rhs rhs ≡ Some t → (o : Option Rhs) → held t.var ≡ o → (new : Rhs) → joined_to t o ≡ Some new → AllBelow k (rhs_vars new)
   held_below rhs t is None there new e = cc
-  held_below rhs t is (Some inner) there new e = subst (AllBelow k) (sym (joined_vars rhs t is inner new e)) (low t.var inner there)
+  held_below rhs t is (Some inner) there new e = joined_below k rhs t is inner new e (low t.var inner there)
 
   -- so does the new right side
   rhs_below : (rhs : Rhs) → AllBelow k (rhs_vars rhs) → AllBelow k (rhs_vars (joined_rhs held rhs))
-  rhs_below rhs below = by (read_rhs rhs) refl
+  rhs_below rhs below = order_below k (unwrap_or (joined_of held (read_rhs rhs)) rhs) (by (read_rhs rhs) refl)
     where
       instead : (o : Option Rhs) → ((new : Rhs) → o ≡ Some new → AllBelow k (rhs_vars new)) → AllBelow k (rhs_vars (unwrap_or o rhs))
       instead None is = below
@@ -125,7 +127,8 @@ unread op (Const c) (Const d) e = refl
 division_same : (held : ℕ → Option Rhs) (op : Op) (left right : Operand) → divides (Binary op left right) ≡ true → joined_rhs held (Binary op left right) ≡ Binary op left right
 division_same held op left right e =
     let parts = and_parts (is_dividing op) (may_be_zero right) e in
-    ap (λ o. unwrap_or (joined_of held o) (Binary op left right)) (unread op left right parts.0)
+    ap (λ o. in_order (unwrap_or (joined_of held o) (Binary op left right))) (unread op left right parts.0)
+    ∙ ap (λ c. if c && is_turned left right then Binary op right left else Binary op left right) (unturned op parts.0)
 
 -- ---- lists of nodes
 

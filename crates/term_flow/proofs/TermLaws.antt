@@ -71,7 +71,7 @@ left_holds Xor c x fits = record { gives = λ v. ap (λ n. wrapped (pos n)) (xor
 left_holds _ c x fits = tt
 
 -- an operator that does not divide never traps
-never_traps : (op : Op) (b : ℤ) → is_dividing op ≡ false → traps op b ≡ false
+pub never_traps : (op : Op) (b : ℤ) → is_dividing op ≡ false → traps op b ≡ false
 never_traps op b undivided = rw undivided refl
 
 -- the right side never traps, counts once, and gives what this variable and this constant do

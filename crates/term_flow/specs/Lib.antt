@@ -1,4 +1,5 @@
 pub mod Terms
+pub mod Orders
 pub mod Termed
 pub mod TermedLaws
 pub mod ByRows

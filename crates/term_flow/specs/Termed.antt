@@ -1,4 +1,4 @@
--- The graph in which operators with constants on one another are one. Cited by contracts.
+-- The graph in which operators with constants on one another are one, and operands stand in one order. Cited by contracts.
 use Rattle.std.specs.Prelude.{◌≡◌, ℕ, ◌<◌, List, length, slice_get, Option, option_map}
 use Rattle.std.specs.Option.{unwrap_or}
 use Rattle.mir_base.specs.declared.instructions.Rhs.{Rhs}
@@ -7,13 +7,14 @@ use Rattle.flow_graph.specs.declared.nodes.Node.TheVariants.{Start, Skip, Assign
 use Rattle.flow_graph.specs.Edges.{IsSplit}
 use Rattle.flow_graph.specs.Graphs.{GraphShape, succs_at}
 use Rattle.held_assign.specs.Holding.{IsHeldRhs}
+use Rattle.term_flow.specs.Orders.{in_order}
 use Rattle.term_flow.specs.Terms.{is_term, joined_of, read_rhs}
 
 -- ---- what a node becomes, where `held` tells for each variable the right side that it holds
 
--- a right side: the one that joins it to what its variable holds, and itself where there is none
+-- a right side: the one that joins it to what its variable holds, and itself where there is none; its operands in order
 abbrev pub joined_rhs : (ℕ → Option Rhs) → Rhs → Rhs
-joined_rhs held rhs = unwrap_or (joined_of held (read_rhs rhs)) rhs
+joined_rhs held rhs = in_order (unwrap_or (joined_of held (read_rhs rhs)) rhs)
 
 -- an assignment takes such a right side
 abbrev pub termed_node : (ℕ → Option Rhs) → Node → Node

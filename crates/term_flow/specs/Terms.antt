@@ -167,9 +167,27 @@ of_zero Eq held = denied_rhs held
 of_zero Ne held = comparison held
 of_zero _ held = None
 
--- the operator with the constant on what a comparison gives
+-- a comparison that is compared with 1
+abbrev pub of_one : Op → Rhs → Option Rhs
+of_one Eq held = comparison held
+of_one Ne held = denied_rhs held
+of_one _ held = None
+
+-- the constant, where the right side is a comparison
+abbrev pub settled : ℤ → Rhs → Option Rhs
+settled c rhs = option_map (λ denied. Plain (Const c)) (denied_rhs rhs)
+
+-- a comparison that is compared with a number that it never gives
+abbrev pub of_other : Op → Rhs → Option Rhs
+of_other Eq held = settled (pos 0) held
+of_other Ne held = settled (pos 1) held
+of_other _ held = None
+
+-- the operator with the constant on what a comparison gives, which is 0 or 1
 abbrev pub of_truth : Op → ℤ → Rhs → Option Rhs
-of_truth op c held = if int_eq c (pos 0) then of_zero op held else None
+of_truth op c held =
+    if int_eq c (pos 0) then of_zero op held
+    else (if int_eq c (pos 1) then of_one op held else of_other op held)
 
 -- ---- right sides
 

@@ -1,4 +1,4 @@
-// The graph in which operators with constants on one another are one.
+// The graph in which operators with constants on one another are one, and operands stand in one order.
 ghost use Rattle.std.specs.Prelude.{IfOk};
 ghost use Rattle.flow_graph.specs.Passes.{GraphDividesUnchanged, GraphKeeps};
 ghost use Rattle.term_flow.specs.Termed.{IsOnlyTermed, IsTermed, KeepsSplit, KeepsSuccs};
@@ -11,8 +11,9 @@ use mir_base::Memory;
 use std::alloc::Global;
 
 /// The graph in which an operator with a constant, on a variable that holds what another one made of a variable a, is
-/// one operator on a. Only right sides of `Assign` nodes change, and only those that read a variable t and a constant;
-/// `-t` counts as `0 - t`, and `!t` as `t = 0`. By the right side that t holds before the node:
+/// one operator on a, and operands stand in one order. Only right sides of `Assign` nodes change. First those that read
+/// a variable t and a constant; `-t` counts as `0 - t`, and `!t` as `t = 0`. By the right side that t holds before the
+/// node:
 ///
 /// - t is `a + k`, `a - k`, `k - a` or `-a`: a sum or difference of t and a constant becomes `a + m` or `m - a`, and a
 ///   where it is `a + 0`; `t = c` and `t != c` become `a = m` and `a != m`.
@@ -21,7 +22,11 @@ use std::alloc::Global;
 ///   t becomes one on a.
 /// - t is a shift of a by a constant: the same shift of t by a constant becomes one of a, where both together go at most
 ///   63 places; a shift to the right with the sign always does, and then goes 63 places at most.
-/// - t is a comparison, a relation or `!`: `t != 0` becomes it, and `t = 0` the one that holds where it does not.
+/// - t is a comparison, a relation or `!`: `t != 0` and `t = 1` become it, `t = 0` and `t != 1` the one that holds where
+///   it does not, and with any other c `t = c` becomes 0 and `t != c` becomes 1.
+///
+/// Then each whose operator gives the same with its operands turned (`+ * min max = != and or xor`): a variable stands
+/// left of a constant, and of two variables the one of the lower number stands left.
 ///
 /// An assignment `v <- rhs` holds before a node where it does not read v and on every path from Start to the node there
 /// is, before the node, such an assignment after which, before the node, no node assigns v or a variable of rhs; a call

@@ -1,14 +1,20 @@
-// Comparisons that are compared with 0.
+// Comparisons that are compared with a constant.
 ghost use Rattle.std.specs.Prelude.{◌≡◌};
-ghost use Rattle.term_flow.specs.Terms.{comparison, denied_op, denied_rhs, of_truth, of_zero};
+ghost use Rattle.term_flow.specs.Terms.{comparison, denied_op, denied_rhs, of_one, of_other, of_truth, of_zero, settled};
 
 use mir_base::{Op, Operand, Rhs, UnOp};
 
-/// The operator with the constant on what a comparison gives.
+/// The operator with the constant on what a comparison gives, which is 0 or 1.
 pub(crate) fn of_truth(op: Op, c: i64, held: Rhs) -> Option<Rhs>
     ensures { result ≡ of_truth op c held }
 {
-    if c == 0 { of_zero(op, held) } else { None }
+    if c == 0 {
+        of_zero(op, held)
+    } else if c == 1 {
+        of_one(op, held)
+    } else {
+        of_other(op, held)
+    }
 }
 
 /// A comparison that is compared with 0.
@@ -19,6 +25,38 @@ fn of_zero(op: Op, held: Rhs) -> Option<Rhs>
         Op::Eq => denied_rhs(held),
         Op::Ne => comparison(held),
         _ => None,
+    }
+}
+
+/// A comparison that is compared with 1.
+fn of_one(op: Op, held: Rhs) -> Option<Rhs>
+    ensures { result ≡ of_one op held }
+{
+    match op {
+        Op::Eq => comparison(held),
+        Op::Ne => denied_rhs(held),
+        _ => None,
+    }
+}
+
+/// A comparison that is compared with a number that it never gives.
+fn of_other(op: Op, held: Rhs) -> Option<Rhs>
+    ensures { result ≡ of_other op held }
+{
+    match op {
+        Op::Eq => settled(0, held),
+        Op::Ne => settled(1, held),
+        _ => None,
+    }
+}
+
+/// The constant, where the right side is a comparison.
+fn settled(c: i64, rhs: Rhs) -> Option<Rhs>
+    ensures { result ≡ settled c rhs }
+{
+    match denied_rhs(rhs) {
+        Some(_) => Some(Rhs::Plain(Operand::Const(c))),
+        None => None,
     }
 }
 

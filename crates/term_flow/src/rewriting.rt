@@ -1,4 +1,4 @@
-// The nodes with operators with constants joined.
+// The nodes with operators with constants joined, and operands in order.
 ghost use Rattle.std.specs.Prelude.{◌≡◌, ◌<◌, length, IfOk};
 ghost use Rattle.held_assign.specs.Rows.{IsLookup, held_at};
 ghost use Rattle.term_flow.specs.Termed.{joined_rhs, termed_node};
@@ -6,6 +6,7 @@ ghost use Rattle.term_flow.specs.Terms.{joined_of, read_rhs};
 ghost use Rattle.term_flow.specs.ByRows.{AreMade};
 
 use crate::joining::joined_to;
+use crate::ordering::in_order;
 use crate::reading::read_rhs;
 use flow_graph::{Graph, Node};
 use held_assign::HeldAssigns;
@@ -45,15 +46,15 @@ fn termed_node(held: &HeldAssigns, n: usize, node: &Node) -> Result<Node, Memory
     }
 }
 
-/// What a right side becomes at node n.
+/// What a right side becomes at node n, with its operands in order.
 fn joined_rhs(held: &HeldAssigns, n: usize, rhs: Rhs) -> Rhs
     requires lookup { IsLookup (length held.now.targets) (length held.now.held) held.now }
     requires there { n < length held.now.held }
     ensures { result ≡ joined_rhs (held_at held.now n) rhs }
 {
     match joined_of(held, n, rhs) {
-        Some(joined) => joined,
-        None => rhs,
+        Some(joined) => in_order(joined),
+        None => in_order(rhs),
     }
 }
 
