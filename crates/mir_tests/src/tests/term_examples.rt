@@ -61,6 +61,7 @@ return b
 end
 $ lower terms: changes
 2: b <- n * 42 to 3
+3: c <- n and 12 to 4
 4: d <- n and 8 to 5
 6: f <- n or 15 to 7
 8: h <- n to 9
@@ -70,7 +71,7 @@ $ lower terms: changes
 16: q <- n shr 7 to 17
 18: s <- n min 4 to 19
 20: u <- n max 12 to 21
-12 stay
+11 stay
 # comparisons of comparisons with 0
 main: begin
 receive n(val)
@@ -96,7 +97,80 @@ $ lower terms: changes
 7: g <- n != 0 to 8
 8: h <- ! n to 9
 10: j <- n != 3 to 11
-6 stay
+11: k <- n = 3 to 12
+5 stay
+# comparisons of comparisons with other constants
+main: begin
+receive n(val)
+receive m(val)
+a <- m < n
+b <- a = 1
+c <- a != 1
+d <- a = 2
+e <- a != -1
+f <- 1 != a
+g <- m = n
+h <- g = 0
+i <- a < 1
+return b
+end
+$ lower terms: changes
+2: b <- m < n to 3
+3: c <- m >= n to 4
+4: d <- 0 to 5
+5: e <- 1 to 6
+6: f <- m >= n to 7
+7: g <- n = m to 8
+8: h <- n != m to 9
+4 stay
+# operands in one order: a variable left of a constant, and the lesser number left; where the order matters they stay
+main: begin
+receive n(val)
+receive m(val)
+a <- n + m
+b <- m + n
+c <- m * n
+d <- 3 * n
+e <- m min n
+f <- m max n
+g <- m = n
+h <- 4 != n
+i <- m and n
+j <- m or n
+k <- m xor n
+l <- m - n
+o <- m < n
+p <- 5 shl n
+q <- 6 / n
+r <- m mod n
+s <- 2 < n
+return b
+end
+$ lower terms: changes
+2: b <- n + m to 3
+3: c <- n * m to 4
+4: d <- n * 3 to 5
+5: e <- n min m to 6
+6: f <- n max m to 7
+7: g <- n = m to 8
+8: h <- n != 4 to 9
+9: i <- n and m to 10
+10: j <- n or m to 11
+11: k <- n xor m to 12
+9 stay
+# a sum in either order is one expression behind the pass
+main: begin
+receive n(val)
+receive m(val)
+a <- n + m
+b <- m + n
+return b
+end
+$ lower number: changes
+4 stay
+$ lower terms number: changes
+2: b <- a to 3
+3 stay
 # an operand that is assigned since, one that reads itself, one path alone, and operators that do not go together
 main: begin
 receive n(val)

@@ -26,7 +26,7 @@ receive n(val)
 h1 <- n
 h2 <- 0
 L1: if h1 = 0 goto L2
-h2 <- h2 + h1
+h2 <- h1 + h2
 h1 <- h1 - 1
 goto L1
 L2: return h2

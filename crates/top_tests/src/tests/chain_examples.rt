@@ -70,7 +70,7 @@ receive n(val)
 h1 <- n
 h2 <- 0
 L1: if h1 = 0 goto L2
-h3 <- h2 + h1
+h3 <- h1 + h2
 g <- g + 1
 h1 <- h1 - 1
 h2 <- h3
