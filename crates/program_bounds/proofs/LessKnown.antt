@@ -1,6 +1,5 @@
 -- Where less is known outside, less is known in the unit.
-use Rattle.std.proofs.Common.{◌≡◌, ℕ, zero, suc, ◌+◌, ◌-◌, ◌<◌, Bool, true, false, if◌then◌else◌, nat_eq, List, [], ◌∷◌, ◌++◌, length, map, replicate, slice_get, slice_index_or, Option, Some, None, refl, sym, ap, ◌∙◌, subst, arith}
-use Rattle.std.specs.List.{range_with_len}
+use Rattle.std.proofs.Common.{◌≡◌, ℕ, zero, suc, ◌+◌, Bool, true, false, if◌then◌else◌, List, [], ◌∷◌, ◌++◌, length, map, replicate, slice_index_or, Option, Some, None, refl, sym, ◌∙◌, subst}
 use Rattle.fix_solve.specs.Pointwise.{Pointwise, pointwise_refl}
 use Rattle.mir_base.specs.Frames.{shared_vars}
 use Rattle.mir_base.specs.declared.instructions.Operand.{Operand}
@@ -14,13 +13,13 @@ use Rattle.bounds.specs.BoundRules.{bound_rules}
 use Rattle.bounds.specs.BoundRuleLaws.{bound_laws}
 use Rattle.bounds.specs.Facts.{BelowFact}
 use Rattle.cond_flow.specs.Handing.{handed}
-use Rattle.cond_flow.specs.Passing.{after_call, all_set, back_at, first_known, known_after, passed_along, passes, start_known}
-use Rattle.cond_flow.specs.PassingLaws.{below_at, below_set, length_first, passing_within, set_rises}
-use Rattle.cond_flow.specs.Rules.{Rules, known_at}
+use Rattle.cond_flow.specs.Passing.{after_call, back_at, first_known, known_after, passed_along, passes}
+use Rattle.cond_flow.specs.PassingLaws.{below_at, below_set, length_first, set_rises}
+use Rattle.cond_flow.specs.Rules.{known_at}
 use Rattle.cond_flow.specs.Solutions.{AreStates}
-use Rattle.cond_flow.specs.StateLaws.{below_refl, below_trans}
-use Rattle.cond_flow.specs.States.{BelowState, NodeState, Unreached, Knows, size_of}
-use Rattle.program_bounds.specs.Facts.{AreSurer, BelowRows, ProgramFacts, around, facts_in, row_at, rules_at}
+use Rattle.cond_flow.specs.StateLaws.{below_trans}
+use Rattle.cond_flow.specs.States.{BelowState, NodeState, Unreached, Knows}
+use Rattle.program_bounds.specs.Facts.{AreSurer, ProgramFacts, facts_in, row_at, rules_at}
 
 -- "never" is below all
 pub never_below : (ys : List Fact) → Pointwise BelowFact (replicate (length ys) Never) ys

@@ -1,5 +1,5 @@
 -- What is known after a node has handed over something: as little more as serves it, and less room where it is more.
-use Rattle.std.proofs.Common.{◌≡◌, ◌≢◌, ◌⊎◌, ℕ, zero, suc, ◌+◌, ◌*◌, ◌-◌, ◌<◌, ◌≤◌, Bool, true, false, ◌||◌, inl, inr, List, [], ◌∷◌, length, slice_get, slice_set, Option, Some, None, refl, sym, ap, ◌∙◌, subst, arith, true≢false}
+use Rattle.std.proofs.Common.{◌≡◌, ◌≢◌, ℕ, zero, suc, ◌+◌, ◌*◌, ◌-◌, ◌<◌, ◌≤◌, Bool, true, false, ◌||◌, inl, inr, List, [], ◌∷◌, length, slice_get, slice_set, Option, Some, None, refl, sym, ap, ◌∙◌, subst, arith, true≢false}
 use Rattle.std.proofs.lemmas.Bool.{cases_eq, or_parts}
 use Rattle.std.proofs.lemmas.List.{get_or-set_other, get_or-set_same, length-set}
 use Rattle.std.proofs.lemmas.Option.{same_Some}
@@ -8,13 +8,12 @@ use Rattle.flow_graph.specs.declared.nodes.Node.{Node}
 use Rattle.flow_graph.specs.declared.nodes.Node.TheVariants.{Start, Skip, Assign, Print, Guard, Call, Test, Return}
 use Rattle.flow_graph.specs.Graphs.{GraphShape}
 use Rattle.bounds.specs.declared.facts.Fact.{Fact}
-use Rattle.bounds.specs.BoundRules.{bound_rules}
 use Rattle.bounds.specs.BoundRuleLaws.{bound_laws}
 use Rattle.bounds.specs.Facts.{BelowFact, fact_rank, joined_fact}
 use Rattle.cond_flow.specs.StateLaws.{below_refl, below_size, below_trans, rank_bound, state_joins, state_laws}
 use Rattle.cond_flow.specs.States.{BelowState, NodeState, Unreached, Knows, joined, size_of, state_rank}
 use Rattle.program_bounds.specs.Facts.{AreSurer, BelowRows, ProgramFacts, row_at}
-use Rattle.program_bounds.specs.Sweeps.{CanGiveAt, GivesAt, GivesTo, HasGiven, HaveGiven, StaySized, facts_room, row_joined, rows_room, state_room}
+use Rattle.program_bounds.specs.Sweeps.{CanGiveAt, GivesAt, GivesTo, HasGiven, StaySized, facts_room, row_joined, rows_room, state_room}
 use Rattle.program_bounds.proofs.Rows.{put_itself}
 
 -- the room of rows of which one is put

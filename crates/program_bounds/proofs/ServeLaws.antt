@@ -1,8 +1,8 @@
 -- One unit that is served: what is known stays surer than all that serves, and where nothing is raised it serves the unit.
-use Rattle.std.proofs.Common.{◌≡◌, ℕ, zero, suc, ◌+◌, ◌<◌, Bool, true, false, List, [], ◌∷◌, ◌++◌, length, map, slice_get, slice_index_or, Option, Some, None, Vec, option_map, refl, sym, ap, ◌∙◌, subst, arith}
+use Rattle.std.proofs.Common.{◌≡◌, ℕ, zero, suc, ◌+◌, ◌<◌, Bool, true, List, [], ◌∷◌, length, map, slice_get, Option, Some, Vec, option_map, refl, sym, ap, ◌∙◌, subst, arith}
 use Rattle.std.proofs.lemmas.List.{length-map, length-append}
 use Rattle.std.proofs.lemmas.List.FromFn.{length-map-range_with_len}
-use Rattle.std.proofs.lemmas.Option.{same_Some, slice_get_within, slice_get-map}
+use Rattle.std.proofs.lemmas.Option.{same_Some, slice_get_within}
 use Rattle.fix_solve.specs.Pointwise.{Pointwise}
 use Rattle.mir_base.specs.Frames.{shared_vars}
 use Rattle.mir_base.specs.declared.instructions.Operand.{Operand}
@@ -18,9 +18,9 @@ use Rattle.bounds.specs.Facts.{BelowFact}
 use Rattle.cond_flow.specs.Handing.{AreHanded, handed, handed_at}
 use Rattle.cond_flow.specs.Rules.{known_at}
 use Rattle.cond_flow.specs.StateLaws.{below_trans}
-use Rattle.cond_flow.specs.States.{BelowState, NodeState, Unreached, Knows, is_reached, size_of}
+use Rattle.cond_flow.specs.States.{BelowState, NodeState, Unreached, Knows, is_reached}
 use Rattle.program_bounds.specs.BoundStacks.{above_known}
-use Rattle.program_bounds.specs.Facts.{AreRows, AreServed, AreSurer, FitGraphs, IsServed, ProgramFacts, first_facts, row_at, rules_at}
+use Rattle.program_bounds.specs.Facts.{AreRows, AreServed, AreSurer, IsServed, ProgramFacts, first_facts, row_at, rules_at}
 use Rattle.program_bounds.specs.Sweeps.{CanGive, CanGiveAt, FitTogether, GivesTo, HasGiven, HaveGiven, IsProgress, Serves, StaySized}
 use Rattle.program_bounds.proofs.LessKnown.{handed_below, states_less}
 

@@ -1,5 +1,5 @@
 -- What is known at first is surer than all that serves.
-use Rattle.std.proofs.Common.{◌≡◌, ◌⊎◌, inl, inr, ℕ, zero, suc, ◌+◌, ◌<◌, ◌≤◌, Bool, true, List, [], ◌∷◌, ◌++◌, length, map, pos, replicate, slice_get, slice_index_or, slice_set, Some, refl, sym, ap, ◌∙◌, subst, arith}
+use Rattle.std.proofs.Common.{◌≡◌, inl, inr, ℕ, zero, suc, ◌+◌, ◌<◌, List, [], ◌∷◌, length, map, pos, replicate, slice_get, Some, refl, sym, ap, ◌∙◌, subst, arith}
 use Rattle.std.proofs.lemmas.Bool.{cases_lt}
 use Rattle.std.proofs.lemmas.List.{get_or_past, length-append, length-map, length-replicate}
 use Rattle.std.proofs.lemmas.Option.{same_Some}
@@ -13,8 +13,8 @@ use Rattle.bounds.specs.Edges.{anything}
 use Rattle.bounds.specs.Facts.{BelowFact}
 use Rattle.cond_flow.specs.StateLaws.{unreached_below}
 use Rattle.cond_flow.specs.States.{BelowState, NodeState, Unreached, Knows, is_reached, size_of}
-use Rattle.program_bounds.specs.Facts.{AreRows, AreServed, AreSurer, BelowRows, ProgramFacts, first_facts, row_at}
-use Rattle.program_bounds.specs.Sweeps.{AreFirstEntries, AreNeverBacks, AreNeverEntries, IsProgress, StaySized, row_joined}
+use Rattle.program_bounds.specs.Facts.{AreRows, AreServed, BelowRows, ProgramFacts, first_facts, row_at}
+use Rattle.program_bounds.specs.Sweeps.{AreFirstEntries, AreNeverBacks, IsProgress, StaySized, row_joined}
 use Rattle.program_bounds.proofs.LessKnown.{never_below}
 use Rattle.program_bounds.proofs.Raises.{row_has, row_least, row_sized}
 use Rattle.program_bounds.proofs.Rows.{reached_known}

@@ -1,7 +1,7 @@
 -- Law: the program of the rewritten graphs goes step by step with the program of the graphs. Frames are equal, of units
 -- that are entered, and what is known where they stand holds of their values. Those that wait go on so, whatever answers
 -- they get of which what is known of what the called unit hands back holds. For proofs only.
-use Rattle.std.proofs.Common.{◌≡◌, ℕ, zero, suc, ◌<◌, ◌≤◌, inl, inr, List, [], ◌∷◌, ◌++◌, length, map, replicate, slice_get, slice_index_or, ℤ, pos, Option, Some, None, refl, sym, ap, ◌∙◌, subst, arith, le_refl}
+use Rattle.std.proofs.Common.{◌≡◌, ℕ, zero, suc, ◌<◌, ◌≤◌, inl, List, [], ◌∷◌, length, map, replicate, slice_get, slice_index_or, ℤ, pos, Option, Some, refl, sym, ap, ◌∙◌, subst, arith, le_refl}
 use Rattle.std.proofs.lemmas.Option.{slice_get_within}
 use Rattle.mir_base.specs.declared.instructions.Operand.{Operand}
 use Rattle.mir_base.specs.Frames.{Answer, CallEntry, Code, Frame, first_frame, resumed, Transition, Continues, Prints, Calls, Returns, Traps}
@@ -15,14 +15,14 @@ use Rattle.flow_graph.specs.Machines.{graph_code}
 use Rattle.fix_solve.specs.Pointwise.{Pointwise}
 use Rattle.mir_sim.specs.Machines.{MachinesKeep, codes_in}
 use Rattle.mir_sim.specs.StackLaws.{control_after, counted_by, frames_by, leads_step, printed_by, stacks_keep}
-use Rattle.mir_sim.specs.StackSimulations.{Abreast, MeetsAgain, Stack, StepsLead, first_stack}
+use Rattle.mir_sim.specs.StackSimulations.{Abreast, MeetsAgain, Stack, StepsLead}
 use Rattle.program_pass.specs.GraphPrograms.{IsGraphProgram, graph_machines, graph_numbered, shared_in}
 use Rattle.bounds.specs.declared.facts.Fact.{Fact}
 use Rattle.bounds.specs.BoundRules.{bound_rules}
 use Rattle.bounds.specs.BoundRuleLaws.{bound_laws}
 use Rattle.bounds.specs.Facts.{BelowFact, Bounds}
 use Rattle.cond_flow.specs.Becoming.{nodes_become}
-use Rattle.cond_flow.specs.Handing.{AlikeWhere, AnswerHolds, EntryHolds, IsClosed, IsHandedBack, IsHandedOver, Together, answer_values, entry_values, handed, values_in}
+use Rattle.cond_flow.specs.Handing.{AlikeWhere, AnswerHolds, IsClosed, IsHandedBack, IsHandedOver, Together, answer_values, entry_values, handed, values_in}
 use Rattle.cond_flow.specs.Passing.{first_known, passed_along}
 use Rattle.cond_flow.specs.PassingLaws.{below_at}
 use Rattle.cond_flow.specs.Rules.{AreHeld, LawfulRules}
@@ -30,7 +30,7 @@ use Rattle.cond_flow.specs.Solutions.{AreStates}
 use Rattle.cond_flow.specs.States.{BelowState, NodeState, Unreached, Knows}
 use Rattle.cond_flow.specs.StepLaws.{entered, steps}
 use Rattle.cond_flow.specs.WithinLaws.{laws_within}
-use Rattle.program_bounds.specs.Facts.{ProgramFacts, around, facts_in, first_facts, row_at, rules_at}
+use Rattle.program_bounds.specs.Facts.{ProgramFacts, around, facts_in, row_at, rules_at}
 
 -- the laws of the rules
 pub laws_at : (known : ProgramFacts) (u : ℕ) → LawfulRules BelowFact Bounds (rules_at known u)

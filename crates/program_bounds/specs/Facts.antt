@@ -1,9 +1,8 @@
 -- What is known over the units of a program. Cited by contracts.
-use Rattle.std.specs.Prelude.{◌≡◌, ◌<◌, ℕ, suc, true, ◌+◌, List, [], ◌∷◌, ◌++◌, length, map, pos, replicate, slice_get, slice_index_or, Option, Some}
+use Rattle.std.specs.Prelude.{◌≡◌, ℕ, suc, true, ◌+◌, List, [], ◌∷◌, ◌++◌, length, map, pos, replicate, slice_get, slice_index_or, Option, Some}
 use Rattle.mir_base.specs.declared.instructions.Operand.{Operand}
 use Rattle.flow_graph.specs.declared.nodes.Node.TheVariants.{Call, Return}
 use Rattle.flow_graph.specs.Graphs.{GraphShape}
-use Rattle.program_pass.specs.GraphPrograms.{shared_in}
 use Rattle.bounds.specs.declared.facts.Fact.{Fact}
 use Rattle.bounds.specs.declared.facts.Fact.TheVariants.{Never, Fixed}
 use Rattle.bounds.specs.BoundRules.{bound_rules}

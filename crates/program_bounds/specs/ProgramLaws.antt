@@ -1,16 +1,13 @@
 -- Laws: the graphs of the units of a program fit together; what is made of the units by the surest facts keeps the
 -- program; and a program has one such program. For proofs only.
-use Rattle.std.proofs.Common.{◌≡◌, ℕ, zero, suc, ◌+◌, ◌<◌, ◌≤◌, inl, inr, List, [], ◌∷◌, ◌++◌, length, replicate, slice_get, slice_index_or, ℤ, pos, Option, Some, refl, sym, ap, ◌∙◌, subst, arith, FitsSigned, w64}
-use Rattle.std.proofs.lemmas.Bool.{cases_lt}
-use Rattle.std.proofs.lemmas.List.{ext_get_or, get_or_past}
-use Rattle.std.proofs.lemmas.Option.{same_Some, slice_get_within, slice_get-get_or}
+use Rattle.std.proofs.Common.{◌≡◌, ℕ, zero, suc, ◌<◌, inl, inr, List, [], ◌∷◌, ◌++◌, length, replicate, slice_get, ℤ, pos, Option, Some, refl, sym, ap, ◌∙◌, subst, arith}
+use Rattle.std.proofs.lemmas.List.{ext_get_or}
+use Rattle.std.proofs.lemmas.Option.{same_Some, slice_get_within}
 use Rattle.mir_base.specs.FrameLaws.{argument_fits}
 use Rattle.mir_base.specs.Frames.{CallEntry}
-use Rattle.mir_base.specs.NumberLaws.{zero_fits}
 use Rattle.mir_base.specs.Runs.{AreNumbers}
 use Rattle.mir_base.specs.Shapes.{IsProgram, ProgramShape, UnitShape, body_or_empty, receives_in}
 use Rattle.mir_base.specs.UnitRuns.{IsEntry}
-use Rattle.mir_base.specs.declared.instructions.Operand.{Operand}
 use Rattle.flow_graph.specs.declared.nodes.Node.TheVariants.{Call, Return}
 use Rattle.flow_graph.specs.Graphs.{GraphShape}
 use Rattle.flow_graph.specs.KeepsLaws.{same_globals}
@@ -24,7 +21,6 @@ use Rattle.program_pass.specs.PassPrograms.{CleanedLaid, KeepsRuns, LoweredClean
 use Rattle.program_pass.specs.PassProgramLaws.{at, between_at, graph_program, graphs, graphs_count, middles, passes_keep}
 use Rattle.program_pass.specs.RefitLaws.{called_fits}
 use Rattle.bounds.specs.declared.facts.Fact.{Fact}
-use Rattle.bounds.specs.declared.facts.Fact.TheVariants.{Fixed}
 use Rattle.bounds.specs.BoundRules.{bound_rules}
 use Rattle.bounds.specs.BoundRuleLaws.{bound_laws}
 use Rattle.bounds.specs.Edges.{anything}
@@ -37,7 +33,7 @@ use Rattle.cond_flow.specs.Rules.{AreHeld, known_at}
 use Rattle.cond_flow.specs.StateLaws.{below_antisym}
 use Rattle.cond_flow.specs.States.{BelowState, NodeState, Unreached, Knows}
 use Rattle.cond_flow.specs.WithinLaws.{order_within}
-use Rattle.program_bounds.specs.BoundStacks.{Sides, above_known, bounded_keep, laws_at}
+use Rattle.program_bounds.specs.BoundStacks.{Sides, above_known, bounded_keep}
 use Rattle.program_bounds.specs.Facts.{AreLeastFacts, AreServed, ProgramFacts, around, first_facts, row_at, rules_at}
 use Rattle.program_bounds.specs.Programs.{AreFronts, AreGraphsOf, BoundedBy, BoundedUnit, BoundedUnits, IsBoundedBetween, IsBoundedProgram}
 use Rattle.program_bounds.specs.Sweeps.{FitTogether}

@@ -1,10 +1,8 @@
-use Rattle.std.proofs.Common.{◌≡◌, ◌∙◌, ◌<◌, List, length, map, slice_get, Option, Some, sym, ap, arith}
+use Rattle.std.proofs.Common.{◌∙◌, ◌<◌, length, map, Some, sym, ap, arith}
 use Rattle.std.specs.Option.{option_map}
 use Rattle.std.proofs.lemmas.List.{length-map}
 use Rattle.std.proofs.lemmas.Option.{slice_get-get_or, slice_get-map}
-use Rattle.bounds.specs.declared.facts.Fact.{Fact}
 use Rattle.program_bounds.specs.Tables.{facts_of}
-use Rattle.program_bounds.specs.Sweeps.{CanGiveAt}
 use Rattle.program_bounds.proofs.Raises.{can_more, gives_more, gives_none, node_raises}
 use Rattle.program_bounds.proofs.giving.give.Goals as goal
 

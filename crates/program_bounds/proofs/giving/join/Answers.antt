@@ -1,9 +1,9 @@
-use Rattle.std.proofs.Common.{◌≡◌, ◌<◌, List, [], length, map, slice_index_or, slice_set, Some, refl, sym, ap, ◌∙◌, subst, arith}
+use Rattle.std.proofs.Common.{◌<◌, [], length, map, slice_set, Some, sym, subst, arith}
 use Rattle.std.proofs.lemmas.List.{get_or_read, length-map}
 use Rattle.cond_flow.specs.States.{Knows}
 use Rattle.program_bounds.specs.BoundStacks.{bounded_keep}
 use Rattle.program_bounds.specs.Facts.{ProgramFacts}
-use Rattle.program_bounds.specs.Sweeps.{CanJoin, GivesAt, given_by}
+use Rattle.program_bounds.specs.Sweeps.{CanJoin, GivesAt}
 use Rattle.program_bounds.specs.Tables.{facts_of}
 use Rattle.program_bounds.proofs.Rows.{backs_given}
 use Rattle.program_bounds.proofs.giving.join.Goals as goal

@@ -1,4 +1,4 @@
-use Rattle.std.proofs.Common.{◌≡◌, ◌∙◌, map, sym, ap}
+use Rattle.std.proofs.Common.{◌∙◌, sym, ap}
 use Rattle.std.proofs.lemmas.List.{get_or_read}
 use Rattle.bounds.specs.BoundRules.{bound_rules}
 use Rattle.cond_flow.specs.Rules.{within}

@@ -1,11 +1,10 @@
-use Rattle.std.proofs.Common.{◌≡◌, ◌∙◌, ◌<◌, List, length, map, slice_get, Some, sym, ap, subst, arith}
+use Rattle.std.proofs.Common.{◌≡◌, ◌∙◌, ◌<◌, length, map, slice_get, Some, sym, ap, subst, arith}
 use Rattle.std.specs.Option.{option_map}
 use Rattle.std.proofs.lemmas.List.{get_or_read}
 use Rattle.std.proofs.lemmas.Option.{slice_get-get_or}
 use Rattle.bounds.specs.Facts.{BelowFact}
 use Rattle.cond_flow.specs.Handing.{AreHanded}
 use Rattle.cond_flow.specs.States.{Unreached}
-use Rattle.program_bounds.specs.Facts.{row_at}
 use Rattle.program_bounds.specs.Sweeps.{CanGive, GivesTo}
 use Rattle.program_bounds.specs.Tables.{facts_of}
 use Rattle.program_bounds.proofs.Rows.{reached_known, unreached_known}

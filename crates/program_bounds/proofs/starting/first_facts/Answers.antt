@@ -1,4 +1,4 @@
-use Rattle.std.proofs.Common.{◌≡◌, ◌∙◌, ◌+◌, List, [], ◌∷◌, ◌++◌, append-nil, append_assoc, replicate, pos, sym, ap, arith}
+use Rattle.std.proofs.Common.{◌≡◌, ◌∙◌, [], ◌∷◌, ◌++◌, append-nil, append_assoc, replicate, pos, sym, ap, arith}
 use Rattle.bounds.specs.Edges.{anything}
 use Rattle.bounds.specs.declared.facts.Fact.TheVariants.{Fixed}
 use Rattle.program_bounds.proofs.Rows.{replicate_more}

@@ -1,4 +1,4 @@
-use Rattle.std.proofs.Common.{◌≡◌, ◌∙◌, ◌+◌, List, [], ◌∷◌, ◌++◌, replicate, sym, ap, arith}
+use Rattle.std.proofs.Common.{◌≡◌, ◌∙◌, ◌+◌, [], ◌∷◌, ◌++◌, replicate, ap, arith}
 use Rattle.bounds.specs.declared.facts.Fact.TheVariants.{Never}
 use Rattle.program_bounds.proofs.Rows.{replicate_more}
 use Rattle.program_bounds.proofs.starting.never_list.Goals as goal
