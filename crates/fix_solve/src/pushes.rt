@@ -1,5 +1,5 @@
 // The worklist: nodes are taken from it, pushed along their edges, and targets that changed are put at the end. Nodes are
-// taken from the front at first, and where many visits were made the lowest and the highest too.
+// taken from the front at first, and where many visits were made by their numbers (`ends.rt`).
 ghost use Rattle.std.specs.Prelude.{◌≡◌, ◌≢◌, ℕ, ◌+◌, ◌<◌, ◌≤◌, ◌||◌, true, [], length, slice_index_or, IfNone, IfSome};
 ghost use Rattle.node_list.specs.Lists.{NoLongerLists, is_listed, list_at};
 ghost use Rattle.fix_solve.specs.Net.{AreOfSize, HoldsFirst, HoldsLeast, most_pushes};
