@@ -1,41 +1,13 @@
 -- The new numbers of the marked units, and the units that are marked.
-use Rattle.std.proofs.Common.{◌≡◌, ℕ, zero, suc, ◌+◌, ◌<◌, Bool, true, false, cond, List, [], ◌∷◌, ◌++◌, length, slice_get, slice_index_or, Some, inl, inr, refl, sym, ap, ◌∙◌, subst, arith, map, drop, append_assoc}
-use Rattle.std.proofs.lemmas.Bool.{cases_lt}
+use Rattle.std.proofs.Common.{◌≡◌, ℕ, suc, ◌+◌, ◌<◌, Bool, true, false, cond, List, [], ◌∷◌, ◌++◌, length, slice_get, slice_index_or, Some, refl, sym, ap, ◌∙◌, subst, arith, map, drop, append_assoc}
 use Rattle.std.proofs.lemmas.Option.{slice_get-get_or, get_or_from_slice_get}
 use Rattle.mir_base.specs.declared.instructions.Inst.{Inst}
 use Rattle.mir_base.specs.declared.instructions.Inst.TheVariants.{Receive, Assign, Goto, If, TrapIf, Call, Print, Return}
 use Rattle.mir_base.specs.Shapes.{BodyFits, InstFits, UnitShape}
-use Rattle.flow_graph.specs.ListLaws.{cons_same, drop_at, get_left, get_seam}
+use Rattle.flow_graph.specs.ListLaws.{cons_same, drop_at}
 use Rattle.flow_graph.specs.NumberTables.{number_at}
 use Rattle.flow_graph.specs.Retained.{marked_below, marked, AreRanks}
 use Rattle.called_units.specs.CalledUnits.{redirected_call, with_calls}
-
--- the rank after a marked unit is one more
-pub rank_more : (marks : List Bool) (i : ℕ) → slice_get marks i ≡ Some true → marked_below marks (suc i) ≡ suc (marked_below marks i)
-rank_more [] i e = cc
-rank_more (true ∷ marks) zero e = refl
-rank_more (false ∷ marks) zero e = cc
-rank_more (true ∷ marks) (suc i) e = ap suc (rank_more marks i e)
-rank_more (false ∷ marks) (suc i) e = rank_more marks i e
-
--- after any other it is the same
-pub rank_same : (marks : List Bool) (i : ℕ) → slice_get marks i ≡ Some false → marked_below marks (suc i) ≡ marked_below marks i
-rank_same [] i e = cc
-rank_same (true ∷ marks) zero e = cc
-rank_same (false ∷ marks) zero e = refl
-rank_same (true ∷ marks) (suc i) e = ap suc (rank_same marks i e)
-rank_same (false ∷ marks) (suc i) e = rank_same marks i e
-
--- the table of ranks with one rank more
-pub ranked : (marks : List Bool) (ranks ranks' : List ℕ) (i : ℕ) → length ranks ≡ i → ((k : ℕ) → k < i → slice_get ranks k ≡ Some (marked_below marks k)) → ranks' ≡ ranks ++ marked_below marks i ∷ [] → (k : ℕ) → k < i + 1 → slice_get ranks' k ≡ Some (marked_below marks k)
-ranked marks ranks ranks' i long are e k lt =
-    elim (cases_lt k i) [
-      | inl below ↦ ap (λ l. slice_get l k) e ∙ get_left ranks (marked_below marks i ∷ []) k (omega (arith, below, long)) ∙ are k below
-      | inr above ↦
-          let at_ : k ≡ length ranks = omega (arith, above, lt, long) in
-          let here : k ≡ i = omega (arith, above, lt) in
-          ap (λ l. slice_get l k) e ∙ ap (slice_get (ranks ++ marked_below marks i ∷ [])) at_ ∙ get_seam ranks [] (marked_below marks i) ∙ ap (λ n. Some (marked_below marks n)) (sym here)
-    ]
 
 -- a mark by index
 pub marks_index : (marks : List Bool) (i : ℕ) (b : Bool) → i < length marks → slice_index_or marks i false ≡ b → slice_get marks i ≡ Some b

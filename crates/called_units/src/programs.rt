@@ -1,12 +1,12 @@
 // The program of the units that calls lead to.
 ghost use Rattle.std.specs.Prelude.{◌≡◌, ◌++◌, ◌∷◌, [], length, if◌then◌else◌, IfOk, OnOk};
 ghost use Rattle.flow_graph.specs.NumberTables.{number_at};
-ghost use Rattle.flow_graph.specs.Retained.{AreRanks};
 ghost use Rattle.program_pass.specs.PassPrograms.{IsOnly, KeepsRuns};
 ghost use Rattle.called_units.specs.CalledUnits.{HasCalledUnits, only_marked, with_calls};
 
 use crate::called::called;
 use crate::renumbering::with_calls;
+use flow_graph::ranks;
 use mir_base::{Memory, Program, Unit as MirUnit};
 use std::alloc::Global;
 
@@ -54,19 +54,4 @@ fn push_marked(
         units.push(with_calls(alloc, unit, ranks)?)?;
     }
     Ok(())
-}
-
-/// For each unit, the number of marked units before it: the number that it gets.
-fn ranks(alloc: Global, marks: &[bool]) -> Result<Vec<usize>, Memory>
-    ensures { IfOk result (λ ranks. AreRanks marks.now ranks.items) }
-{
-    let mut ranks = Vec::with_capacity(alloc, marks.len())?;
-    let mut rank = 0;
-    for mark in marks {
-        ranks.push(rank)?;
-        if *mark {
-            rank += 1;
-        }
-    }
-    Ok(ranks)
 }

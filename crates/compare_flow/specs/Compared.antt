@@ -6,8 +6,7 @@ use Rattle.mir_base.specs.declared.instructions.Rhs.{Rhs}
 use Rattle.mir_base.specs.declared.instructions.Test.{Test as Condition}
 use Rattle.flow_graph.specs.declared.nodes.Node.{Node}
 use Rattle.flow_graph.specs.declared.nodes.Node.TheVariants.{Start, Skip, Assign, Print, Guard, Call, Test, Return}
-use Rattle.flow_graph.specs.Edges.{IsSplit}
-use Rattle.flow_graph.specs.Graphs.{GraphShape, succs_at}
+use Rattle.flow_graph.specs.Graphs.{GraphShape}
 use Rattle.held_assign.specs.Holding.{IsHeldRhs}
 use Rattle.compare_flow.specs.declared.truths.Asked.{Asked}
 use Rattle.compare_flow.specs.Truths.{asked_in, is_comparison, truth_test}
@@ -63,11 +62,3 @@ pub record IsCompared (graph compared : GraphShape) : Type 0 where
 -- no other graph is the compared one
 abbrev pub IsOnlyCompared : GraphShape → GraphShape → Type 0
 IsOnlyCompared graph compared = (other : GraphShape) → IsCompared graph other → other ≡ compared
-
--- each node has the successors that it had
-abbrev pub KeepsSuccs : GraphShape → GraphShape → Type 0
-KeepsSuccs graph compared = (n : ℕ) → succs_at compared.nodes n ≡ succs_at graph.nodes n
-
--- a split graph stays split
-abbrev pub KeepsSplit : GraphShape → GraphShape → Type 0
-KeepsSplit graph compared = IsSplit graph.nodes → IsSplit compared.nodes

@@ -1,7 +1,7 @@
 // The graph with comparisons in tests.
 ghost use Rattle.std.specs.Prelude.{IfOk};
-ghost use Rattle.flow_graph.specs.Passes.{GraphDividesUnchanged, GraphKeeps};
-ghost use Rattle.compare_flow.specs.Compared.{IsCompared, IsOnlyCompared, KeepsSplit, KeepsSuccs};
+ghost use Rattle.flow_graph.specs.Passes.{GraphDividesUnchanged, GraphKeeps, KeepsSplit, KeepsSuccs};
+ghost use Rattle.compare_flow.specs.Compared.{IsCompared, IsOnlyCompared};
 
 use crate::rewriting::compared_nodes;
 use crate::truths::PickComparisons;
@@ -10,8 +10,8 @@ use held_assign::HeldAssigns;
 use mir_base::Memory;
 use std::alloc::Global;
 
-/// The graph in which a test of a variable that holds a comparison is the comparison. Only the tests of `Test` nodes and
-/// of `Guard` nodes, the traps, change, and of these the ones that ask whether a variable v is 0: `v` and `!v`, and
+/// The graph in which a test of a variable that holds a comparison is the comparison. Only the tests of `Test` nodes
+/// and of `Guard` nodes, the traps, change, and of these the ones that ask whether a variable v is 0: `v` and `!v`, and
 /// `v != 0` and `v = 0` with 0 on either side. Where `v <- a op b` with a relation for its operator holds before the
 /// node, such a test becomes `a op b` where it asks for v not 0, and the contrary relation of a and b where it asks for
 /// v 0; where `v <- !a` holds, it becomes the test that a is 0, or that it is not.

@@ -1,5 +1,5 @@
 -- What is made of each unit is what its arguments always are, and of all units the one program, which keeps its runs.
-use Rattle.std.proofs.Common.{◌≡◌, inl, inr, ℕ, ◌<◌, List, [], ◌∷◌, ◌++◌, length, slice_get, ℤ, Option, Some, refl, sym, ap, ◌∙◌, subst, arith}
+use Rattle.std.proofs.Common.{◌≡◌, inl, ℕ, ◌<◌, List, length, slice_get, ℤ, Option, Some, refl, sym, ap, ◌∙◌, subst, arith}
 use Rattle.std.proofs.lemmas.Option.{slice_get_within}
 use Rattle.mir_base.specs.Shapes.{IsProgram, ProgramShape, UnitShape}
 use Rattle.mir_base.specs.UnitRuns.{UnitCheaper, UnitSame}
@@ -8,17 +8,18 @@ use Rattle.flow_graph.specs.declared.nodes.Node.TheVariants.{Call}
 use Rattle.flow_graph.specs.Calls.{CallsAmong, NodesCall}
 use Rattle.flow_graph.specs.Graphs.{CanMake, GraphShape}
 use Rattle.flow_graph.specs.KeepsLaws.{same_globals}
-use Rattle.flow_graph.specs.ListLaws.{get_push, some_at}
+use Rattle.flow_graph.specs.ListLaws.{some_at}
 use Rattle.flow_graph.specs.Machines.{graph_machine, machine_of}
 use Rattle.flow_graph.specs.OneLaws.{lowered_is_one, made_is_one}
 use Rattle.flow_graph.specs.Retained.{IsMade}
 use Rattle.jump_clean.specs.Cleaned.{IsClean}
 use Rattle.jump_clean.specs.CleanLaws.{clean_is_one}
-use Rattle.program_pass.specs.PassPrograms.{AllPassed, CleanedLaid, KeepsRuns, LoweredClean, PassKeeps}
+use Rattle.program_pass.specs.Fronts.{AreFronts}
+use Rattle.program_pass.specs.PassPrograms.{AllPassed, CleanedLaid, KeepsRuns, PassKeeps}
 use Rattle.program_pass.specs.PassProgramLaws.{at, between_at, graph_is, graph_program, graphs, graphs_count, middles, passes_keep}
 use Rattle.program_pass.specs.RefitLaws.{called_fits}
 use Rattle.constant_args.specs.ConstantArguments.{AreConstants, ArgumentsAssigned, CallSite, IsCallOf, Knowing, put_behind_start, constant_puts}
-use Rattle.constant_args.specs.Gathered.{AreFronts, CallsExist, IsCallBefore, KnowingUnit, KnowsMade}
+use Rattle.constant_args.specs.Gathered.{CallsExist, IsCallBefore, KnowingUnit, KnowsMade}
 use Rattle.constant_args.proofs.ArgumentStacks.{CallsIn, knowing_keep}
 use Rattle.constant_args.proofs.BehindStart.{behind_start_calls, behind_start_can}
 use Rattle.constant_args.proofs.Constants.{puts_below, puts_same}
@@ -143,22 +144,6 @@ module _ (units : List UnitShape) (gs : List GraphShape) (fronts : AreFronts uni
         let fits = called_fits units unit.0.body v (length operands) (program.bodies w unit.0 unit.1) (front.1.keeps.calls v (length operands) (record { number = n; node = Call into v operands next; here = here ∙ ap Some is; calls = refl })) in
         omega (arith, fits.0, fronts.long);
   }
-
--- graphs of the first units
-abbrev pub AreFrontsBelow : List UnitShape → List GraphShape → Type 0
-AreFrontsBelow units gs = (u : ℕ) (unit : UnitShape) (graph : GraphShape) → slice_get units u ≡ Some unit → slice_get gs u ≡ Some graph → (lowered : GraphShape) × LoweredClean unit lowered graph
-
--- one more
-pub fronts_more : (units : List UnitShape) (gs more : List GraphShape) (number : ℕ) (unit : UnitShape) (lowered graph : GraphShape) → length gs ≡ number → AreFrontsBelow units gs → slice_get units number ≡ Some unit
-    → LoweredClean unit lowered graph → more ≡ gs ++ graph ∷ [] → AreFrontsBelow units more
-fronts_more units gs more number unit lowered graph long are at made is u v g at_v at_g = elim (get_push gs graph g u (sym (ap (λ l. slice_get l u) is) ∙ at_g)) [
-  | inl old ↦ are u v g at_v old
-  | inr last ↦
-      let number_is : u ≡ number = last.0 ∙ long in
-      let both : Some unit ≡ Some v = sym at ∙ ap (slice_get units) (sym number_is) ∙ at_v in
-      let same : unit ≡ v = cc in
-      (lowered, subst (λ h. LoweredClean v lowered h) last.1 (subst (λ s. LoweredClean s lowered graph) same made))
-]
 
 -- ---- the program
 

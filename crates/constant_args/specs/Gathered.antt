@@ -11,19 +11,13 @@ use Rattle.flow_graph.specs.Graphs.{GraphShape}
 use Rattle.flow_graph.specs.Machines.{graph_machine, machine_of}
 use Rattle.flow_graph.specs.Numbering.{is_in}
 use Rattle.flow_graph.specs.Retained.{IsMade}
-use Rattle.program_pass.specs.PassPrograms.{AllPassed, LoweredClean, PassedAt}
+use Rattle.program_pass.specs.PassPrograms.{AllPassed, PassedAt}
 use Rattle.constant_args.specs.declared.gathering.NotedCalls.{NotedCalls}
 use Rattle.constant_args.specs.declared.states.ArgumentState.{ArgumentState}
 use Rattle.constant_args.specs.declared.states.ArgumentState.TheVariants.{Open, Always, Varies}
 use Rattle.constant_args.specs.ConstantArguments.{AreConstants, ArgumentsAssigned, CallSite, GivesConstant, Knowing, PassesOn, assigned_var, put_behind_start, constant_puts}
 
--- ---- the graphs
-
--- the graphs of the units, with what they keep
-pub record AreFronts (units : List UnitShape) (graphs : List GraphShape) : Type 0 where
-  pub long : length graphs ≡ length units
-  pub are : (u : ℕ) (unit : UnitShape) (graph : GraphShape) → slice_get units u ≡ Some unit
-      → slice_get graphs u ≡ Some graph → (lowered : GraphShape) × LoweredClean unit lowered graph
+-- ---- the calls of the graphs
 
 -- a node calls none but the first units
 abbrev pub CallIsWithin : Node → ℕ → Type 0

@@ -1,4 +1,4 @@
-// What the calls of a unit give it.
+// What the calls of each unit pass for its arguments.
 ghost use Rattle.std.specs.Prelude.{◌≡◌, ◌++◌, ◌+◌, ◌<◌, [], false, length, nat_eq, replicate, if◌then◌else◌, IfOk, OnOk};
 ghost use Rattle.constant_args.specs.declared.states.ArgumentState.TheVariants.{Open};
 ghost use Rattle.constant_args.specs.Gathered.{AreAllConstants, AreNotedBefore, CallIsWithin, CallsExist, JoinsArguments, NotesSite, NotesNode, kept_vars};
@@ -9,17 +9,17 @@ use flow_graph::{Graph, Node};
 use mir_base::{Memory, Operand};
 use std::alloc::Global;
 
-/// What the calls of a unit give it, as far as they are noted.
+/// What the calls of a unit pass for its arguments, of the calls that are noted so far.
 #[derive(Drop)]
 pub(crate) struct NotedCalls {
-    /// Whether there is one.
+    /// Whether a call is noted.
     called: bool,
-    /// What they give each argument; empty before the first call.
+    /// What they pass for each argument; empty before the first call.
     pub(crate) arguments: Vec<ArgumentState>,
 }
 
 impl NotedCalls {
-    /// Nothing.
+    /// The state in which no call is noted.
     fn none(alloc: Global) -> NotedCalls
         ensures uncalled { result.called ≡ false }
         ensures empty { result.arguments.items ≡ [] }
@@ -43,7 +43,7 @@ impl NotedCalls {
     }
 }
 
-/// For each unit what its arguments always are. It fails only with `Memory`.
+/// For each unit what its arguments are in all calls, found in the graphs of all units. It fails only with `Memory`.
 pub(crate) fn gathered(alloc: Global, graphs: &Vec<Graph>) -> Result<Vec<NotedCalls>, Memory>
     requires { CallsExist graphs.now.items }
     ensures { IfOk result (λ noted. AreAllConstants graphs.now.items noted.items) }
@@ -53,7 +53,7 @@ pub(crate) fn gathered(alloc: Global, graphs: &Vec<Graph>) -> Result<Vec<NotedCa
     Ok(noted)
 }
 
-/// For each unit what all calls give.
+/// For each unit what all calls pass for its arguments.
 fn all_gathered(alloc: Global, graphs: &Vec<Graph>) -> Result<Vec<NotedCalls>, Memory>
     requires { CallsExist graphs.now.items }
     ensures { IfOk result (λ noted.
@@ -66,7 +66,7 @@ fn all_gathered(alloc: Global, graphs: &Vec<Graph>) -> Result<Vec<NotedCalls>, M
     Ok(noted)
 }
 
-/// Nothing, for each unit.
+/// For each unit the state in which no call is noted.
 fn nothing_gathered(alloc: Global, graphs: &Vec<Graph>) -> Result<Vec<NotedCalls>, Memory>
     ensures { IfOk result (λ noted. AreNotedBefore graphs.now.items 0 0 noted.items) }
 {
@@ -125,7 +125,7 @@ fn passed_to<'a>(called: usize, unit: usize, kept: &'a [Option<usize>]) -> &'a [
     if called == unit { kept } else { &kept[..0] }
 }
 
-/// Adds so many arguments of which nothing is known.
+/// Adds the states of so many arguments for which no call has passed anything yet.
 fn open_arguments(arguments: &mut Vec<ArgumentState>, count: usize) -> Result<(), Memory>
     ensures { OnOk result
         (arguments.new.items ≡ arguments.old.items ++ replicate count Open) }

@@ -9,7 +9,8 @@ use mir_base::Memory;
 use program_pass::marks_of;
 use std::alloc::Global;
 
-/// Each received variable that no node assigns, at the number of its argument. It fails only with `Memory`.
+/// For each argument, by number, the variable that receives it, and `None` where some node assigns this variable. It
+/// fails only with `Memory`.
 pub(crate) fn kept_vars(alloc: Global, graph: &Graph) -> Result<Vec<Option<usize>>, Memory>
     ensures { IfOk result (λ kept. kept.items ≡ kept_vars graph.now) }
 {
@@ -52,7 +53,7 @@ fn push_assigned(vars: &mut Vec<usize>, node: &Node) -> Result<(), Memory>
     }
 }
 
-/// Each of these variables that is none of the assigned ones, at its place; all are less than `vars`.
+/// The received variables, with `None` in the place of each assigned one; all numbers are less than `vars`.
 fn kept_among(
     alloc: Global,
     received: &[usize],

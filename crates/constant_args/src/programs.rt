@@ -1,15 +1,15 @@
 // Programs whose units know the arguments that are always the same constant.
 ghost use Rattle.std.specs.Prelude.{◌<◌, IfOk, length};
+ghost use Rattle.program_pass.specs.Fronts.{AreFronts};
 ghost use Rattle.program_pass.specs.PassPrograms.{IsOnly, KeepsRuns};
 ghost use Rattle.constant_args.specs.ConstantArguments.{HasConstantArguments};
-ghost use Rattle.constant_args.specs.Gathered.{AreAllConstants, AreFronts, KnowingUnit, KnowingUnits};
+ghost use Rattle.constant_args.specs.Gathered.{AreAllConstants, KnowingUnit, KnowingUnits};
 
 use crate::gathering::{NotedCalls, gathered};
-use crate::graphs::graphs_of;
 use crate::knowing::knowing;
 use flow_graph::Graph;
 use mir_base::{Memory, Program, Unit as MirUnit};
-use program_pass::laid_out;
+use program_pass::{graphs_of, laid_out};
 use std::alloc::Global;
 
 /// The program whose units are those of this one, each lowered, cleaned, told which of its arguments are always the

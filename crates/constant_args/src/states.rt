@@ -1,22 +1,23 @@
-// What calls give one argument, as they are noted one after the other.
+// What calls pass for one argument: a state, to which the calls are joined one after the other.
 ghost use Rattle.std.specs.Prelude.{◌≡◌, ◌↔◌, slice_get, IsTrue, None, Some};
 ghost use Rattle.mir_base.specs.declared.instructions.Operand.TheVariants.{Const, Var};
 ghost use Rattle.constant_args.specs.Gathered.{IsPassed, JoinsOperand, JoinsArgument, constant_in};
 
 use mir_base::Operand;
 
-/// What the calls of a unit that are noted give one of its arguments.
+/// What the calls of a unit that are noted so far pass for one of its arguments. A call of a unit by itself may pass on
+/// the argument that the unit was given.
 #[derive(Clone, Copy)]
 pub(crate) enum ArgumentState {
-    /// Each passes on what the unit itself was given.
+    /// Each passes on what the unit was given, or there is none: nothing is decided.
     Open,
-    /// Each gives this constant, or passes on what the unit itself was given.
+    /// Some passes this constant, and each other passes it too, or passes on what the unit was given.
     Always(i64),
-    /// Neither.
+    /// Two pass different constants, or one passes neither a constant nor what the unit was given.
     Varies,
 }
 
-/// The constant, where there is one.
+/// The constant of the state, where there is one.
 pub(crate) fn constant_in(state: ArgumentState) -> Option<i64>
     ensures { result ≡ constant_in state }
 {

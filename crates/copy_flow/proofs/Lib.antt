@@ -1,5 +1,4 @@
 pub mod Meaning
 pub mod Shapes
 pub mod Found
-pub mod Whole
 pub mod Rereads

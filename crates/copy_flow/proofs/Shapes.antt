@@ -1,7 +1,8 @@
--- The copied graph has the shape of the graph: the same edges, no other variables and calls, and each division in its
--- place.
-use Rattle.std.proofs.Common.{◌≡◌, ℕ, suc, ◌<◌, Bool, true, false, ◌&&◌, if◌then◌else◌, List, [], ◌∷◌, ◌++◌, length, map, flat_map, slice_get, Option, Some, None, option_map, refl, sym, ap, ◌∙◌, subst}
+-- The copied graph has the shape of the graph: a graph can be made of its nodes, with the same edges, no other calls, and
+-- each division in its place.
+use Rattle.std.proofs.Common.{◌≡◌, ℕ, ◌<◌, Bool, true, false, ◌&&◌, if◌then◌else◌, List, [], ◌∷◌, ◌++◌, length, map, flat_map, Some, option_map, refl, ap, ◌∙◌}
 use Rattle.std.proofs.lemmas.List.{length-map}
+use Rattle.std.proofs.lemmas.Option.{slice_get_within}
 use Rattle.mir_base.specs.declared.operators.Op.{Op}
 use Rattle.mir_base.specs.declared.instructions.Operand.{Operand}
 use Rattle.mir_base.specs.declared.instructions.Operand.TheVariants.{Var, Const}
@@ -15,65 +16,37 @@ use Rattle.mir_base.specs.Shapes.{AllBelow, operand_vars, rhs_vars, test_vars, i
 use Rattle.mir_base.specs.BelowLaws.{all_below_left, all_below_right, all_below_append}
 use Rattle.flow_graph.specs.declared.nodes.Node.{Node}
 use Rattle.flow_graph.specs.declared.nodes.Node.TheVariants.{Start, Skip, Assign, Print, Guard, Call, Test, Return}
-use Rattle.flow_graph.specs.Calls.{NodesCall, node_call}
 use Rattle.flow_graph.specs.Dividing.{DividesAt, DividesStay}
-use Rattle.flow_graph.specs.Edges.{IsSplit, edges_from, preds_among, preds_of}
-use Rattle.flow_graph.specs.EdgeLaws.{edges_alike}
-use Rattle.flow_graph.specs.Graphs.{GraphShape, IsEdge, Reached, at_start, along, node_succs, node_vars, succs_at, succs_of}
-use Rattle.flow_graph.specs.NodeLaws.{mapped_from}
+use Rattle.flow_graph.specs.Graphs.{CanMake, GraphShape, node_vars}
+use Rattle.flow_graph.specs.NodeByNode.{IsInPlace, IsNodeByNode, in_place_guard, in_place_itself, in_place_test, kept_can}
 use Rattle.copy_flow.specs.Copies.{is_var}
 use Rattle.flow_graph.specs.Numbering.{renamed_operand, renamed_rhs, renamed_test}
 use Rattle.copy_flow.specs.Copied.{AreCopied, reread_node}
+use Rattle.copy_flow.proofs.Found.{read_below}
 
 -- ---- one node
 
--- an assignment and a Skip in its place have one successor
-chosen_succs : (b : Bool) (x : ℕ) (rhs : Rhs) (next : ℕ) → node_succs (if b then Skip next else Assign x rhs next) ≡ next ∷ []
-chosen_succs true x rhs next = refl
-chosen_succs false x rhs next = refl
+-- an assignment or a Skip stands in the place of an assignment
+chosen_in_place : (b : Bool) (x : ℕ) (rhs new : Rhs) (next : ℕ) → IsInPlace (Assign x rhs next) (if b then Skip next else Assign x new next)
+chosen_in_place true x rhs new next = record { succs = refl; call = refl; was_start = λ s e. cc; start = λ s e. cc; skip = λ s e. cc }
+chosen_in_place false x rhs new next = record { succs = refl; call = refl; was_start = λ s e. cc; start = λ s e. cc; skip = λ s e. cc }
 
--- the successors of a node stay
-pub reread_succs : (read : ℕ → ℕ) (node : Node) → node_succs (reread_node read node) ≡ node_succs node
-reread_succs read (Start next) = refl
-reread_succs read (Skip next) = refl
-reread_succs read (Assign x rhs next) = chosen_succs (is_var x (renamed_rhs read rhs)) x (renamed_rhs read rhs) next
-reread_succs read (Print a next) = refl
-reread_succs read (Guard test number next) = refl
-reread_succs read (Call into unit operands next) = refl
-reread_succs read (Test test taken other) = refl
-reread_succs read (Return a) = refl
-
--- neither calls
-chosen_call : (b : Bool) (x : ℕ) (rhs : Rhs) (next : ℕ) → node_call (if b then Skip next else Assign x rhs next) ≡ None
-chosen_call true x rhs next = refl
-chosen_call false x rhs next = refl
-
--- its call stays
-reread_call : (read : ℕ → ℕ) (node : Node) → node_call (reread_node read node) ≡ node_call node
-reread_call read (Start next) = refl
-reread_call read (Skip next) = refl
-reread_call read (Assign x rhs next) = chosen_call (is_var x (renamed_rhs read rhs)) x (renamed_rhs read rhs) next
-reread_call read (Print a next) = refl
-reread_call read (Guard test number next) = refl
-reread_call read (Call into unit operands next) = ap (λ n. Some (unit, n)) (length-map operands (renamed_operand read))
-reread_call read (Test test taken other) = refl
-reread_call read (Return a) = refl
-
--- neither is Start
-chosen_start : (b : Bool) (x : ℕ) (rhs : Rhs) (next s : ℕ) → (if b then Skip next else Assign x rhs next) ≡ Start s → ⊥
-chosen_start true x rhs next s e = cc
-chosen_start false x rhs next s e = cc
-
--- only Start becomes Start
-pub reread_start : (read : ℕ → ℕ) (node : Node) (s : ℕ) → reread_node read node ≡ Start s → node ≡ Start s
-reread_start read (Start next) s e = e
-reread_start read (Skip next) s e = cc
-reread_start read (Assign x rhs next) s e = absurd (chosen_start (is_var x (renamed_rhs read rhs)) x (renamed_rhs read rhs) next s e)
-reread_start read (Print a next) s e = cc
-reread_start read (Guard test number next) s e = cc
-reread_start read (Call into unit operands next) s e = cc
-reread_start read (Test test taken other) s e = cc
-reread_start read (Return a) s e = cc
+-- the new node stands in the place of the old one
+pub reread_in_place : (read : ℕ → ℕ) (node : Node) → IsInPlace node (reread_node read node)
+reread_in_place read (Start next) = in_place_itself (Start next)
+reread_in_place read (Skip next) = in_place_itself (Skip next)
+reread_in_place read (Assign x rhs next) = chosen_in_place (is_var x (renamed_rhs read rhs)) x rhs (renamed_rhs read rhs) next
+reread_in_place read (Print a next) = record { succs = refl; call = refl; was_start = λ s e. cc; start = λ s e. cc; skip = λ s e. cc }
+reread_in_place read (Guard test number next) = in_place_guard test (renamed_test read test) number next
+reread_in_place read (Call into unit operands next) = record {
+  succs = refl;
+  call = ap (λ n. Some (unit, n)) (length-map operands (renamed_operand read));
+  was_start = λ s e. cc;
+  start = λ s e. cc;
+  skip = λ s e. cc;
+}
+reread_in_place read (Test test taken other) = in_place_test test (renamed_test read test) taken other
+reread_in_place read (Return a) = record { succs = refl; call = refl; was_start = λ s e. cc; start = λ s e. cc; skip = λ s e. cc }
 
 -- ---- variables of a node
 
@@ -118,68 +91,18 @@ module _ (k : ℕ) (read : ℕ → ℕ) (low : (v : ℕ) → v < k → read v < 
   reread_below (Test test taken other) below = test_below test below
   reread_below (Return a) below = operand_below a below
 
--- ---- lists of nodes
-
--- lists of which one is made of the other place by place are equally long
-same_length : (xs ys : List Node) (f : ℕ → Node → Node) → ((n : ℕ) → slice_get xs n ≡ option_map (f n) (slice_get ys n)) → length xs ≡ length ys
-same_length [] [] f are = refl
-same_length [] (y ∷ ys) f are = let e : None ≡ Some (f 0 y) = are 0 in cc
-same_length (x ∷ xs) [] f are = let e : Some x ≡ None = are 0 in cc
-same_length (x ∷ xs) (y ∷ ys) f are = ap suc (same_length xs ys (λ n. f (suc n)) (λ n. are (suc n)))
-
 -- ---- the copied nodes
 
 module _ (graph : GraphShape) (nodes : List Node) (are : AreCopied graph nodes) where
-  pub copied_length : length nodes ≡ length graph.nodes
-  copied_length = same_length nodes graph.nodes (λ n. reread_node (are.read n)) are.nodes_are
+  -- each node is put anew in its place
+  abbrev pub copied_by : IsNodeByNode graph.nodes nodes
+  copied_by = record { becomes = λ n. reread_node (are.read n); in_place = λ n. reread_in_place (are.read n); nodes_are = are.nodes_are }
 
-  succs_of_copied : (n : ℕ) (o : Option Node) → succs_of (option_map (reread_node (are.read n)) o) ≡ succs_of o
-  succs_of_copied n None = refl
-  succs_of_copied n (Some node) = reread_succs (are.read n) node
-
-  pub copied_succs : (n : ℕ) → succs_at nodes n ≡ succs_at graph.nodes n
-  copied_succs n = ap succs_of (are.nodes_are n) ∙ succs_of_copied n (slice_get graph.nodes n)
-
-  -- an edge stays
-  edge_on : (m slot s : ℕ) → IsEdge graph.nodes m slot s → IsEdge nodes m slot s
-  edge_on m slot s edge = ap (λ l. slice_get l slot) (copied_succs m) ∙ edge
-
-  -- and none is new
-  pub edge_back : (m slot s : ℕ) → IsEdge nodes m slot s → IsEdge graph.nodes m slot s
-  edge_back m slot s edge = ap (λ l. slice_get l slot) (sym (copied_succs m)) ∙ edge
-
-  -- so all nodes stay reached
-  pub copied_reached : (n : ℕ) → Reached graph.nodes n → Reached nodes n
-  copied_reached n at_start = at_start
-  copied_reached n (along m slot s reached edge) = along m slot n (copied_reached m reached) (edge_on m slot n edge)
-
-  -- what stands at a place came from the node there
-  pub came_from : (n : ℕ) (node : Node) → slice_get nodes n ≡ Some node → (before : Node) × (slice_get graph.nodes n ≡ Some before) × (reread_node (are.read n) before ≡ node)
-  came_from n node e = let from = mapped_from (reread_node (are.read n)) (slice_get graph.nodes n) node (sym (are.nodes_are n) ∙ e) in (from.0, from.1, from.2)
-
-  pub copied_calls : (called count : ℕ) → NodesCall nodes called count → NodesCall graph.nodes called count
-  copied_calls called count c =
-      let from = came_from c.number c.node c.here in
-      record { number = c.number; node = from.0; here = from.1; calls = sym (reread_call (are.read c.number) from.0) ∙ ap node_call from.2 ∙ c.calls }
-
-  -- ---- splitness: the edges are the same, and Skips stay
-
-  copied_edges : edges_from 0 nodes ≡ edges_from 0 graph.nodes
-  copied_edges = edges_alike 0 nodes graph.nodes copied_length copied_succs
-
-  copied_preds : (s : ℕ) → preds_of nodes s ≡ preds_of graph.nodes s
-  copied_preds s = ap (preds_among s) copied_edges
-
-  skip_stays : (n s : ℕ) → slice_get graph.nodes n ≡ Some (Skip s) → slice_get nodes n ≡ Some (Skip s)
-  skip_stays n s here = are.nodes_are n ∙ ap (option_map (reread_node (are.read n))) here
-
-  pub copied_split : IsSplit graph.nodes → IsSplit nodes
-  copied_split split = record {
-    by_skips = λ s i n s_in many at.
-        skip_stays n s (split.by_skips s i n (subst (λ l. s < l) copied_length s_in) (subst (λ l. 1 < length l) (copied_preds s) many) (sym (ap (λ l. slice_get l i) (copied_preds s)) ∙ at));
-    once = λ s i j n s_in many at at'.
-        split.once s i j n (subst (λ l. s < l) copied_length s_in) (subst (λ l. 1 < length l) (copied_preds s) many) (sym (ap (λ l. slice_get l i) (copied_preds s)) ∙ at) (sym (ap (λ l. slice_get l j) (copied_preds s)) ∙ at');
-  }
+  pub copied_can_make : CanMake graph.vars graph.received graph.nodes → CanMake graph.vars graph.received nodes
+  copied_can_make can = kept_can graph.nodes nodes copied_by graph.vars graph.received can (λ n node here.
+      let lt = slice_get_within graph.nodes n node here in
+      let low : (v : ℕ) → v < length graph.vars → are.read n v < length graph.vars = λ v v_in. read_below graph can v (are.read n v) n (are.is_read n v lt) v_in in
+      reread_below (length graph.vars) (are.read n) low node (can.below n node here))
 
   -- ---- divisions
 

@@ -3,8 +3,7 @@ use Rattle.std.specs.Prelude.{◌≡◌, ℕ, ◌<◌, if◌then◌else◌, List
 use Rattle.mir_base.specs.declared.instructions.Rhs.{Rhs}
 use Rattle.flow_graph.specs.declared.nodes.Node.{Node}
 use Rattle.flow_graph.specs.declared.nodes.Node.TheVariants.{Start, Skip, Assign, Print, Guard, Call, Test, Return}
-use Rattle.flow_graph.specs.Edges.{IsSplit}
-use Rattle.flow_graph.specs.Graphs.{GraphShape, succs_at}
+use Rattle.flow_graph.specs.Graphs.{GraphShape}
 use Rattle.flow_graph.specs.Numbering.{renamed_operand, renamed_rhs, renamed_test}
 use Rattle.copy_flow.specs.Copies.{IsReadFor, is_var}
 
@@ -46,11 +45,3 @@ pub record IsCopied (graph copied : GraphShape) : Type 0 where
 -- no other graph is the copied one
 abbrev pub IsOnlyCopied : GraphShape → GraphShape → Type 0
 IsOnlyCopied graph copied = (other : GraphShape) → IsCopied graph other → other ≡ copied
-
--- each node has the successors that it had
-abbrev pub HaveSameSuccs : GraphShape → GraphShape → Type 0
-HaveSameSuccs graph copied = (n : ℕ) → succs_at copied.nodes n ≡ succs_at graph.nodes n
-
--- a split graph stays split
-abbrev pub StaysSplit : GraphShape → GraphShape → Type 0
-StaysSplit graph copied = IsSplit graph.nodes → IsSplit copied.nodes

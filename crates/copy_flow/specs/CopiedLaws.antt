@@ -1,14 +1,13 @@
 -- Laws: a variable is a copy of one variable at most, and a graph has one copied graph. For proofs only, of mir_opt
 -- too.
-use Rattle.std.proofs.Common.{◌≡◌, ℕ, ◌<◌, inl, inr, List, length, slice_get, Option, Some, None, option_map, refl, sym, ap, ◌∙◌}
+use Rattle.std.proofs.Common.{◌≡◌, ℕ, inl, inr, List, sym, ◌∙◌}
 use Rattle.std.proofs.Math.Path.{fun_ext}
-use Rattle.std.proofs.lemmas.Option.{slice_get_within}
 use Rattle.mir_base.specs.declared.instructions.Operand.TheVariants.{Var}
 use Rattle.mir_base.specs.declared.instructions.Rhs.TheVariants.{Plain}
 use Rattle.flow_graph.specs.declared.nodes.Node.{Node}
 use Rattle.flow_graph.specs.Graphs.{GraphShape}
-use Rattle.flow_graph.specs.OneLaws.{same_graphs, same_places}
-use Rattle.held_assign.specs.HeldLaws.{held_is_one}
+use Rattle.flow_graph.specs.OneLaws.{same_graphs}
+use Rattle.held_assign.specs.HeldLaws.{held_is_one, made_is_one}
 use Rattle.copy_flow.specs.Copies.{IsCopyOf, IsReadFor}
 use Rattle.copy_flow.specs.Copied.{AreCopied, IsCopied, reread_node}
 
@@ -31,16 +30,8 @@ read_is_one graph v w u n (inr none) (inr none') = none.0 ∙ sym none'.0
 nodes_are_one : (graph : GraphShape) (nodes other : List Node) → AreCopied graph nodes → AreCopied graph other
     → nodes ≡ other
 nodes_are_one graph nodes other p q =
-    same_places nodes other (λ n. p.nodes_are n ∙ by n (slice_get graph.nodes n) refl ∙ sym (q.nodes_are n))
-  where
-    by : (n : ℕ) (o : Option Node) → slice_get graph.nodes n ≡ o
-        → option_map (reread_node (p.read n)) o ≡ option_map (reread_node (q.read n)) o
-    by n None here = refl
-    by n (Some node) here =
-        let lt : n < length graph.nodes = slice_get_within graph.nodes n node here in
-        let same : p.read n ≡ q.read n =
-        fun_ext (λ v. read_is_one graph v (p.read n v) (q.read n v) n (p.is_read n v lt) (q.is_read n v lt)) in
-        ap (λ read. Some (reread_node read node)) same
+    made_is_one reread_node graph.nodes nodes other p.read q.read p.nodes_are q.nodes_are
+    (λ n lt. fun_ext (λ v. read_is_one graph v (p.read n v) (q.read n v) n (p.is_read n v lt) (q.is_read n v lt)))
 
 -- a graph has one copied graph
 pub copied_is_one : (graph a b : GraphShape) → IsCopied graph a → IsCopied graph b → a ≡ b

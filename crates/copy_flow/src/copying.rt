@@ -1,7 +1,7 @@
 // The copied graph.
 ghost use Rattle.std.specs.Prelude.{IfOk};
-ghost use Rattle.flow_graph.specs.Passes.{GraphDivides, GraphKeeps};
-ghost use Rattle.copy_flow.specs.Copied.{HaveSameSuccs, IsCopied, IsOnlyCopied, StaysSplit};
+ghost use Rattle.flow_graph.specs.Passes.{GraphDivides, GraphKeeps, KeepsSplit, KeepsSuccs};
+ghost use Rattle.copy_flow.specs.Copied.{IsCopied, IsOnlyCopied};
 
 use crate::picking::PickCopies;
 use crate::rereading::reread_nodes;
@@ -30,8 +30,8 @@ pub fn copies(alloc: Global, graph: &Graph) -> Result<Graph, Memory>
     ensures divides { IfOk result (GraphDivides graph.now) }
 
     // its edges are those of the graph, so it is split where the graph is
-    ensures succs { IfOk result (HaveSameSuccs graph.now) }
-    ensures split { IfOk result (StaysSplit graph.now) }
+    ensures succs { IfOk result (KeepsSuccs graph.now) }
+    ensures split { IfOk result (KeepsSplit graph.now) }
 {
     let _nodes = graph.nodes();
     let held = HeldAssigns::of(alloc, graph, &PickCopies)?;
@@ -43,7 +43,7 @@ pub fn copies(alloc: Global, graph: &Graph) -> Result<Graph, Memory>
 /// Has no effect; carries the theorem that the copied graph of a split graph, whoever made it, is split.
 pub fn copied_splits(graph: &Graph, copied: &Graph)
     requires { IsCopied graph.now copied.now }
-    ensures { StaysSplit graph.now copied.now }
+    ensures { KeepsSplit graph.now copied.now }
 {
     let _ = graph;
     let _ = copied;

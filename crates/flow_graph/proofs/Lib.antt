@@ -1,5 +1,5 @@
 pub mod ReachWalks
-pub mod Ranks
+pub mod Ranking
 pub mod Made
 pub mod Keeps
 pub mod EdgeOrder

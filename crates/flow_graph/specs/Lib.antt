@@ -16,7 +16,9 @@ pub mod Lowered
 pub mod LoweringLaws
 pub mod Calls
 pub mod NodeLaws
+pub mod NodeByNode
 pub mod CallLaws
+pub mod FitLaws
 pub mod Plans
 pub mod Numbering
 pub mod NumberingLaws
@@ -27,6 +29,7 @@ pub mod Passes
 pub mod MachineLaws
 pub mod RunFrames
 pub mod RunFrameLaws
+pub mod RunSteps
 pub mod KeepsLaws
 pub mod OneLaws
 pub mod ReachWalks

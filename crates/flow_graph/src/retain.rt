@@ -60,8 +60,9 @@ fn are_all_set(marks: &[bool]) -> bool
     true
 }
 
-/// For each node, the number of marked nodes before it: the number that it gets.
-fn ranks(alloc: Global, marks: &[bool]) -> Result<Vec<usize>, Memory>
+/// For each mark, how many marks before it are set: the number that a marked node or unit gets where only these are kept.
+/// It fails only with `Memory`.
+pub fn ranks(alloc: Global, marks: &[bool]) -> Result<Vec<usize>, Memory>
     ensures { IfOk result (λ ranks. AreRanks marks.now ranks.items) }
 {
     let mut ranks = Vec::with_capacity(alloc, marks.len())?;

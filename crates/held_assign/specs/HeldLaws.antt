@@ -1,11 +1,14 @@
--- Laws: at most one right side holds for a variable before a node. For proofs only, here and above.
-use Rattle.std.proofs.Common.{◌≡◌, ℕ, Bool, true, nat_eq, ◌||◌, inl, inr, List, [], ◌∷◌, slice_get, Option, Some, None, refl, sym, ap, ◌∙◌, eq-eqb, subst, true≢false}
+-- Laws: at most one right side holds for a variable before a node, and it is one of the graph. For proofs only, here and above.
+use Rattle.std.proofs.Common.{◌≡◌, ℕ, ◌<◌, Bool, true, nat_eq, ◌||◌, inl, inr, List, [], ◌∷◌, length, slice_get, Option, Some, None, option_map, refl, sym, ap, ◌∙◌, eq-eqb, subst, true≢false}
+use Rattle.std.proofs.Math.Path.{fun_ext}
+use Rattle.std.proofs.lemmas.Option.{slice_get_within}
 use Rattle.std.specs.List.{list_any}
 use Rattle.mir_base.specs.declared.instructions.Rhs.{Rhs}
-use Rattle.mir_base.specs.Shapes.{rhs_vars}
+use Rattle.mir_base.specs.Shapes.{AllBelow, rhs_vars}
 use Rattle.flow_graph.specs.declared.nodes.Node.{Node}
 use Rattle.flow_graph.specs.declared.nodes.Node.TheVariants.{Assign}
-use Rattle.flow_graph.specs.Graphs.{GraphShape}
+use Rattle.flow_graph.specs.Graphs.{CanMake, GraphShape, node_vars}
+use Rattle.flow_graph.specs.OneLaws.{same_places}
 use Rattle.flow_graph.specs.PathLaws.{reached_trace}
 use Rattle.graph_edit.specs.Accesses.{is_occurrence, occurs_at}
 use Rattle.graph_edit.specs.OccurrenceLaws.{occurrence_is}
@@ -55,6 +58,18 @@ held_rhs_is_one picked graph n v (Some rhs) None is none = absurd (none rhs is.0
 held_rhs_is_one picked graph n v None (Some other) none is' = absurd (none other is'.0 is'.1)
 held_rhs_is_one picked graph n v None None none none' = refl
 
+-- and all that is found before a node is
+pub found_is_one : (picked : ℕ → Rhs → Bool) (graph : GraphShape) (n : ℕ) (a b : ℕ → Option Rhs) → ((v : ℕ) → IsHeldRhs picked graph n v (a v)) → ((v : ℕ) → IsHeldRhs picked graph n v (b v)) → a ≡ b
+found_is_one picked graph n a b p q = fun_ext (λ v. held_rhs_is_one picked graph n v (a v) (b v) (p v) (q v))
+
+-- so nodes that are made of it are one list
+pub made_is_one : {K : Type 0} (becomes : K → Node → Node) (old nodes other : List Node) (a b : ℕ → K) → ((n : ℕ) → slice_get nodes n ≡ option_map (becomes (a n)) (slice_get old n)) → ((n : ℕ) → slice_get other n ≡ option_map (becomes (b n)) (slice_get old n)) → ((n : ℕ) → n < length old → a n ≡ b n) → nodes ≡ other
+made_is_one becomes old nodes other a b p q same = same_places nodes other (λ n. p n ∙ by n (slice_get old n) refl ∙ sym (q n))
+  where
+    by : (n : ℕ) (o : Option Node) → slice_get old n ≡ o → option_map (becomes (a n)) o ≡ option_map (becomes (b n)) o
+    by n None here = refl
+    by n (Some node) here = ap (λ k. Some (becomes k node)) (same n (slice_get_within old n node here))
+
 -- ---- the graph has the assignment
 
 -- on a path on which it holds some node is it
@@ -70,3 +85,17 @@ held_node graph v rhs n held =
     let born = since_node graph v rhs (ends_at graph v rhs) path.0 (held.paths path.0 path.1) in
     let is = occurrence_is v rhs (slice_get graph.nodes born.0) born.1 in
     (born.0, is.0, is.1)
+
+-- its right side reads variables of the graph
+held_below : (graph : GraphShape) → CanMake graph.vars graph.received graph.nodes → (v n : ℕ) (rhs : Rhs) → IsHeld graph v rhs n → AllBelow (length graph.vars) (rhs_vars rhs)
+held_below graph can v n rhs held =
+    let node = held_node graph v rhs n held in
+    let below : AllBelow (length graph.vars) (node_vars (Assign v rhs node.1)) = can.below node.0 (Assign v rhs node.1) node.2 in
+    below.1
+
+-- and so does each right side that is found before a node
+pub found_below : (picked : ℕ → Rhs → Bool) (graph : GraphShape) → CanMake graph.vars graph.received graph.nodes → (n : ℕ) (held : ℕ → Option Rhs)
+    → ((v : ℕ) → IsHeldRhs picked graph n v (held v)) → (v : ℕ) (rhs : Rhs) → held v ≡ Some rhs → AllBelow (length graph.vars) (rhs_vars rhs)
+found_below picked graph can n held are v rhs is =
+    let holds = subst (IsHeldRhs picked graph n v) is (are v) in
+    held_below graph can v n rhs holds.1

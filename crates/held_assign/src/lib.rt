@@ -6,8 +6,8 @@
 //! the picked right side that holds, and `None` exactly where there is none. Beside it stands the law of `held_values`:
 //! in each run that comes to a node before which `v <- rhs` holds, v has the value of rhs there.
 //!
-//! In `specs/Holding.antt` it is said by paths when an assignment holds. There is a bit for each distinct assignment, and
-//! `path_laws` tells at which nodes each of them holds.
+//! In `specs/Holding.antt` it is said by paths when an assignment holds. There is a bit for each distinct assignment,
+//! and `path_laws` tells at which nodes each of them holds.
 #![tactic(auto)]
 
 mod held;

@@ -1,4 +1,5 @@
 pub mod KeyRows
 pub mod KeyRowLaws
+pub mod BelowLaws
 pub mod Gathered
 pub mod GatheredLaws

@@ -9,6 +9,8 @@ pub mod GraphPrograms
 pub mod GraphProgramLaws
 pub mod StepLaws
 pub mod PassPrograms
+pub mod Fronts
+pub mod FrontLaws
 pub mod HeadLaws
 pub mod KeepsLaws
 pub mod RefitLaws

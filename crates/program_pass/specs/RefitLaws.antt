@@ -1,11 +1,13 @@
 -- Law: units that take the places of those of a program, with their names and globals, with as many receives and with
 -- no other calls, fit together as a program. For proofs only.
-use Rattle.std.proofs.Common.{◌≡◌, ℕ, zero, suc, ◌<◌, ◌≤◌, List, [], ◌∷◌, length, take, slice_get, Some, option_map, refl, sym, ap, ◌∙◌, subst, arith}
+use Rattle.std.proofs.Common.{◌≡◌, ℕ, ◌<◌, ◌≤◌, List, length, take, slice_get, Some, option_map, refl, sym, ap, ◌∙◌, subst, arith}
 use Rattle.std.proofs.lemmas.Option.{slice_get_within}
 use Rattle.mir_base.specs.declared.instructions.Inst.{Inst}
 use Rattle.mir_base.specs.declared.instructions.Inst.TheVariants.{Receive, Assign, Goto, If, TrapIf, Call, Print, Return}
 use Rattle.mir_base.specs.Shapes.{AllDiffer, BodyFits, InstFits, IsProgram, SharesGlobals, UnitShape, body_at, body_or_empty, names_of, receives_in}
-use Rattle.flow_graph.specs.Calls.{BodyCalls, CallsAmong, inst_call}
+use Rattle.flow_graph.specs.Calls.{BodyCalls, CallsAmong}
+pub use Rattle.flow_graph.specs.FitLaws.{called_fits}
+use Rattle.flow_graph.specs.FitLaws.{names_at, names_long}
 use Rattle.flow_graph.specs.ListLaws.{some_at}
 use Rattle.flow_graph.specs.Lowered.{CanLower, target_of}
 
@@ -17,37 +19,6 @@ pub record Refits (source target : UnitShape) : Type 0 where
   pub receives : receives_in target.body ≡ receives_in source.body
   pub calls : CallsAmong (BodyCalls target.body) (BodyCalls source.body)
   pub lowers : CanLower target.shared target.body
-
--- a call of a body that fits
-pub called_fits : (units : List UnitShape) (body : List Inst) (called count : ℕ) → BodyFits units body
-    → BodyCalls body called count → (called < length units) × (count ≡ receives_in (body_at units called))
-called_fits units body called count fits c = go c.inst (fits.insts c.place c.inst c.here) c.calls
-  where
-    go : (inst : Inst) → InstFits units body c.place inst → inst_call inst ≡ Some (called, count)
-        → (called < length units) × (count ≡ receives_in (body_at units called))
-    go (Receive x) f is = cc
-    go (Assign x rhs) f is = cc
-    go (Goto to) f is = cc
-    go (If test to) f is = cc
-    go (TrapIf test number) f is = cc
-    go (Call into unit operands) f is =
-        let both : ◌≡◌ {A = ℕ × ℕ} (unit, length operands) (called, count) = cc in
-        let one : unit ≡ called = ap (λ (p : ℕ × ℕ). p.0) both in
-        let other : length operands ≡ count = ap (λ (p : ℕ × ℕ). p.1) both in
-        (subst (λ u. u < length units) one f.0, sym other ∙ f.1 ∙ ap (λ u. receives_in (body_at units u)) one)
-    go (Print a) f is = cc
-    go (Return a) f is = cc
-
--- the names of the units, by their numbers
-names_at : (units : List UnitShape) (n : ℕ) → slice_get (names_of units) n ≡ option_map (λ (u : UnitShape). u.name) (slice_get units n)
-names_at [] n = refl
-names_at (unit ∷ units) zero = refl
-names_at (unit ∷ units) (suc n) = names_at units n
-
--- each unit has one name
-names_long : (units : List UnitShape) → length (names_of units) ≡ length units
-names_long [] = refl
-names_long (unit ∷ units) = ap suc (names_long units)
 
 module _ (sources targets : List UnitShape) (long : length targets ≡ length sources) (each : (n : ℕ) (source target : UnitShape) → slice_get sources n ≡ Some source → slice_get targets n ≡ Some target → Refits source target) where
   -- the units of number n

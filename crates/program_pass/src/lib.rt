@@ -1,5 +1,5 @@
 //! What passes over whole programs share, where a pass may add or take calls. In go a unit, a graph or nodes, and out
-//! come the graph of the unit with clean jumps (`lowered_clean`), the unit of a graph (`laid_out`), nodes with
+//! come the graph of the unit with clean jumps (`lowered_clean`; of all units, `graphs_of`), the unit of a graph (`laid_out`), nodes with
 //! assignments in the place of one (`stand`), and marks of numbers (`marks_of`).
 //!
 //! The theorem that this crate carries stands in `specs/`, for the passes above: where a pass keeps the program of the
@@ -17,4 +17,4 @@ pub use marks::marks_of;
 pub use nodes::{copied_nodes, start_succ};
 pub use standing::{Put, plain_put, stand};
 pub use steps::{PassSteps, swept_steps};
-pub use units::{Front, laid_out, lowered_clean};
+pub use units::{Front, graphs_of, laid_out, lowered_clean};

@@ -1,11 +1,12 @@
 // Units as graphs, and graphs as units.
 ghost use Rattle.std.specs.Prelude.{IfOk};
 ghost use Rattle.flow_graph.specs.Lowered.{CanLower};
+ghost use Rattle.program_pass.specs.Fronts.{AreFronts};
 ghost use Rattle.program_pass.specs.PassPrograms.{CleanedLaid, LoweredClean};
 
 use flow_graph::{Graph, layout, lower};
 use jump_clean::clean;
-use mir_base::{Memory, Unit as MirUnit};
+use mir_base::{Memory, Program, Unit as MirUnit};
 use std::alloc::Global;
 
 /// The graph of a unit, and the same with clean jumps.
@@ -28,6 +29,18 @@ pub fn lowered_clean(alloc: Global, unit: &MirUnit) -> Result<Front, Memory>
     let _cleaned = cleaned.nodes();
     let _shared = cleaned.shared();
     Ok(Front { lowered, cleaned })
+}
+
+/// The graphs of the units of a program, by number, each with clean jumps. It fails only with `Memory`.
+pub fn graphs_of(alloc: Global, program: &Program) -> Result<Vec<Graph>, Memory>
+    ensures { IfOk result (λ graphs. AreFronts program.now.units graphs.items) }
+{
+    let mut graphs = Vec::new(alloc);
+    for number in 0..program.units.items().len() {
+        let front = lowered_clean(alloc, program.unit(number))?;
+        graphs.push(front.cleaned)?;
+    }
+    Ok(graphs)
 }
 
 /// The graph with clean jumps, laid out. It fails only with `Memory`.

@@ -6,4 +6,3 @@ pub mod OrderLaws
 pub mod RunLaws
 pub mod Shapes
 pub mod TermLaws
-pub mod Whole

@@ -1,26 +1,24 @@
 -- Nodes that do, at each frame of a run of a graph, what the graph does and count no more, make a graph that does the same.
 -- At such a frame all values are signed 64-bit numbers.
-use Rattle.std.proofs.Common.{◌≡◌, ℕ, suc, ◌+◌, Bool, true, false, if◌then◌else◌, List, [], ◌∷◌, ◌++◌, slice_get, slice_index_or, ℤ, pos, Option, Some, None, refl, sym, ap, ◌∙◌, subst, arith, le_refl, zero-add, append_assoc}
-use Rattle.std.proofs.lemmas.List.{append-nil}
-use Rattle.std.proofs.lemmas.List.Elements.{All-append, All-cons, All-nil}
+use Rattle.std.proofs.Common.{◌≡◌, ℕ, suc, Bool, true, false, if◌then◌else◌, List, [], ◌∷◌, slice_get, slice_index_or, ℤ, pos, Option, Some, None, refl, sym, subst, le_refl}
 use Rattle.mir_base.specs.declared.operators.Trap.TheVariants.{ZeroDivisor, Raised}
 use Rattle.mir_base.specs.ExpressionLaws.{assign_is}
 use Rattle.mir_base.specs.Expressions.{rhs_count, rhs_traps, rhs_value}
 use Rattle.mir_base.specs.FrameLaws.{FrameFits, ValuesFit, argument_fits, assigned_fits, at_fits, first_fits, resumed_fits, rhs_fits, shared_values_fit, with_first_fits, with_value_fits}
-use Rattle.mir_base.specs.Frames.{Answer, CallEntry, Frame, Transition, Calls, Continues, Prints, Returns, Traps, Values, all_zero, first_frame, resumed, shared_values, with_first, with_value}
-use Rattle.mir_base.specs.LockstepLaws.{lockstep_cheaper, lockstep_same}
-use Rattle.mir_base.specs.Locksteps.{Alike, Lockstep}
+use Rattle.mir_base.specs.Frames.{CallEntry, Frame, Transition, Calls, Continues, Prints, Returns, Traps, Values, all_zero, first_frame, resumed, shared_values, with_first, with_value}
+use Rattle.mir_base.specs.Locksteps.{Alike}
 use Rattle.mir_base.specs.NumberLaws.{zero_fits}
 use Rattle.mir_base.specs.Runs.{AreNumbers}
 use Rattle.mir_base.specs.Simulations.{HandsOver}
-use Rattle.mir_base.specs.UnitRuns.{AreAnswers, IsCallAnswer, IsEntry, UnitCheaper, UnitSame}
+use Rattle.mir_base.specs.UnitRuns.{IsCallAnswer, IsEntry, UnitCheaper, UnitSame}
 use Rattle.mir_base.specs.Units.{assigned, at, test_holds}
 use Rattle.flow_graph.specs.declared.nodes.Node.{Node}
 use Rattle.flow_graph.specs.declared.nodes.Node.TheVariants.{Start, Skip, Assign, Print, Guard, Call, Test, Return}
 use Rattle.flow_graph.specs.Graphs.{GraphShape}
 use Rattle.flow_graph.specs.MachineLaws.{graph_hands}
 use Rattle.flow_graph.specs.Machines.{graph_code, graph_machine, machine_of, node_transition, received_from}
-use Rattle.flow_graph.specs.RunFrames.{IsRunFrame, frame_after, frame_after_transition}
+use Rattle.flow_graph.specs.RunFrames.{IsRunFrame}
+use Rattle.flow_graph.specs.RunSteps.{cheaper_in_runs, same_in_runs}
 
 -- ---- values fit
 
@@ -92,122 +90,38 @@ module _ (graph : GraphShape) where
   abbrev code : Frame → Transition
   code = graph_code graph.shared graph.received graph.nodes
 
-  -- ---- frames of runs
-
-  -- some run comes to the frame in so many steps, with all of these answers used; so what comes after it are steps from
-  -- the frame
-  record Comes (f : Frame) : Type 0 where
-    entry : CallEntry
-    answers : List Answer
-    steps : ℕ
-    is_entry : IsEntry (machine_of graph) entry
-    are_answers : AreAnswers graph.shared answers
-    leads : (k : ℕ) (more : List Answer) → frame_after code (steps + k) (first_frame entry) (answers ++ more) ≡ frame_after code k f more
-
-  -- a run begins
-  begins : (entry : CallEntry) → IsEntry (machine_of graph) entry → Comes (first_frame entry)
-  begins entry is = record {
-    entry = entry;
-    answers = [];
-    steps = 0;
-    is_entry = is;
-    are_answers = All-nil (IsCallAnswer graph.shared);
-    leads = λ k more. ap (λ n. frame_after code n (first_frame entry) more) (zero-add k);
-  }
-
-  -- it goes on
-  goes_on : (f g : Frame) → Comes f → ((k : ℕ) (more : List Answer) → frame_after code (suc k) f more ≡ frame_after code k g more) → Comes g
-  goes_on f g comes step = record {
-    entry = comes.entry;
-    answers = comes.answers;
-    steps = suc comes.steps;
-    is_entry = comes.is_entry;
-    are_answers = comes.are_answers;
-    leads = λ k more.
-        let e : suc comes.steps + k ≡ comes.steps + suc k = omega arith in
-        ap (λ n. frame_after code n (first_frame comes.entry) (comes.answers ++ more)) e ∙ comes.leads (suc k) more ∙ step k more;
-  }
-
-  -- a call gets an answer
-  answered_on : (f g : Frame) (answer : Answer) → IsCallAnswer graph.shared answer → Comes f → ((k : ℕ) (more : List Answer) → frame_after code (suc k) f (answer ∷ more) ≡ frame_after code k g more) → Comes g
-  answered_on f g answer is comes step = record {
-    entry = comes.entry;
-    answers = comes.answers ++ (answer ∷ []);
-    steps = suc comes.steps;
-    is_entry = comes.is_entry;
-    are_answers = All-append (IsCallAnswer graph.shared) comes.answers (answer ∷ []) comes.are_answers (All-cons (IsCallAnswer graph.shared) answer [] is (All-nil (IsCallAnswer graph.shared)));
-    leads = λ k more.
-        let e : suc comes.steps + k ≡ comes.steps + suc k = omega arith in
-        let l : (comes.answers ++ (answer ∷ [])) ++ more ≡ comes.answers ++ (answer ∷ more) = append_assoc comes.answers (answer ∷ []) more in
-        ap (λ n. frame_after code n (first_frame comes.entry) ((comes.answers ++ (answer ∷ [])) ++ more)) e
-        ∙ ap (frame_after code (comes.steps + suc k) (first_frame comes.entry)) l ∙ comes.leads (suc k) (answer ∷ more) ∙ step k more;
-  }
-
-  -- so it is a frame of a run
-  is_run_frame : (f : Frame) → Comes f → IsRunFrame (machine_of graph) f
-  is_run_frame f comes =
-      let none : comes.steps ≡ comes.steps + 0 = omega arith in
-      record {
-        entry = comes.entry;
-        answers = comes.answers;
-        is_entry = comes.is_entry;
-        are_answers = comes.are_answers;
-        steps = comes.steps;
-        is = ap (λ n. frame_after code n (first_frame comes.entry) comes.answers) none
-            ∙ ap (frame_after code (comes.steps + 0) (first_frame comes.entry)) (sym (append-nil comes.answers)) ∙ comes.leads 0 [];
-      }
-
   -- ---- one frame of a run on both sides
 
   record Along (f g : Frame) : Type 0 where
     same : g ≡ f
-    comes : Comes f
     fits : FrameFits f
 
   -- one step of the graph beside itself
-  step_along : (f : Frame) → Comes f → (t : Transition) → code f ≡ t → HandsOver graph.shared t → NextFits t → Alike Along t t
-  step_along f comes (Continues n g) e hands fits = (
-    le_refl n,
-    record { same = refl; comes = goes_on f g comes (λ k more. ap (λ t. frame_after_transition (frame_after code k) t more) e); fits = fits },
-  )
-  step_along f comes (Prints v g) e hands fits = (
-    refl,
-    record { same = refl; comes = goes_on f g comes (λ k more. ap (λ t. frame_after_transition (frame_after code k) t more) e); fits = fits },
-  )
-  step_along f comes (Calls unit entry into g) e hands fits = (
+  step_along : (t : Transition) → HandsOver graph.shared t → NextFits t → Alike Along t t
+  step_along (Continues n g) hands fits = (le_refl n, record { same = refl; fits = fits })
+  step_along (Prints v g) hands fits = (refl, record { same = refl; fits = fits })
+  step_along (Calls unit entry into g) hands fits = (
     refl,
     refl,
-    λ answer is.
-        let its : IsCallAnswer graph.shared answer = subst (λ n. IsCallAnswer n answer) hands is in
-        record {
-          same = refl;
-          comes = answered_on f (resumed into answer g) answer its comes (λ k more. ap (λ t. frame_after_transition (frame_after code k) t (answer ∷ more)) e);
-          fits = resumed_fits graph.shared into answer g its fits;
-        },
+    λ answer is. record { same = refl; fits = resumed_fits graph.shared into answer g (subst (λ n. IsCallAnswer n answer) hands is) fits },
   )
-  step_along f comes (Returns answer) e hands fits = refl
-  step_along f comes (Traps kind n) e hands fits = refl
+  step_along (Returns answer) hands fits = refl
+  step_along (Traps kind n) hands fits = refl
 
   module _ (nodes : List Node) (cheap : (f : Frame) → IsRunFrame (machine_of graph) f → ValuesFit f.values → AsCheap (code f) (graph_code graph.shared graph.received nodes f)) where
-    steps : (f g : Frame) → Along f g → Alike Along (code f) (graph_code graph.shared graph.received nodes g)
-    steps f g on =
-        let itself = step_along f on.comes (code f) refl (graph_hands graph.shared graph.received graph.nodes f) (next_fits graph.shared graph.received (slice_get graph.nodes f.place) f on.fits) in
+    steps : (f g : Frame) → IsRunFrame (machine_of graph) f → Along f g → Alike Along (code f) (graph_code graph.shared graph.received nodes g)
+    steps f g comes on =
+        let itself = step_along (code f) (graph_hands graph.shared graph.received graph.nodes f) (next_fits graph.shared graph.received (slice_get graph.nodes f.place) f on.fits) in
         subst (λ h. Alike Along (code f) (graph_code graph.shared graph.received nodes h)) (sym on.same)
-        (alike_cheap Along (code f) (graph_code graph.shared graph.received nodes f) itself (cheap f (is_run_frame f on.comes) on.fits.values))
+        (alike_cheap Along (code f) (graph_code graph.shared graph.received nodes f) itself (cheap f comes on.fits.values))
 
-    in_lockstep : Lockstep (machine_of graph) (graph_machine graph.shared graph.received nodes) Along
-    in_lockstep = record {
-      receives = refl;
-      shared = refl;
-      hands = graph_hands graph.shared graph.received graph.nodes;
-      starts = λ entry is. record { same = refl; comes = begins entry is; fits = first_fits entry is.numbers is.globals.numbers };
-      steps = steps;
-    }
+    starts : (entry : CallEntry) → IsEntry (machine_of graph) entry → Along (first_frame entry) (first_frame entry)
+    starts entry is = record { same = refl; fits = first_fits entry is.numbers is.globals.numbers }
 
     -- they do the same as the graph
-    pub same_in_runs : UnitSame (machine_of graph) (graph_machine graph.shared graph.received nodes)
-    same_in_runs = lockstep_same (machine_of graph) (graph_machine graph.shared graph.received nodes) Along in_lockstep
+    pub same_by_code : UnitSame (machine_of graph) (graph_machine graph.shared graph.received nodes)
+    same_by_code = same_in_runs (machine_of graph) (graph_machine graph.shared graph.received nodes) refl refl (graph_hands graph.shared graph.received graph.nodes) Along starts steps
 
     -- and evaluate no more operators
-    pub cheaper_in_runs : UnitCheaper (machine_of graph) (graph_machine graph.shared graph.received nodes)
-    cheaper_in_runs = lockstep_cheaper (machine_of graph) (graph_machine graph.shared graph.received nodes) Along in_lockstep
+    pub cheaper_by_code : UnitCheaper (machine_of graph) (graph_machine graph.shared graph.received nodes)
+    cheaper_by_code = cheaper_in_runs (machine_of graph) (graph_machine graph.shared graph.received nodes) refl refl (graph_hands graph.shared graph.received graph.nodes) Along starts steps

@@ -1,7 +1,9 @@
--- The termed graph has the shape of the graph: the same edges, no other calls and divisions, and variables of the graph.
-use Rattle.std.proofs.Common.{◌≡◌, ℕ, suc, ◌<◌, ◌&&◌, if◌then◌else◌, true, List, [], ◌∷◌, length, slice_get, Option, Some, None, option_map, refl, sym, ap, ◌∙◌, subst, ℤ}
+-- The termed graph has the shape of the graph: a graph can be made of its nodes, with the same edges, and no other calls
+-- and divisions.
+use Rattle.std.proofs.Common.{◌≡◌, ℕ, ◌&&◌, if◌then◌else◌, true, List, length, Option, Some, None, refl, ap, ◌∙◌, ℤ}
 use Rattle.std.specs.Option.{unwrap_or}
 use Rattle.std.proofs.lemmas.Bool.{and_parts}
+use Rattle.std.proofs.lemmas.Option.{slice_get_within}
 use Rattle.mir_base.specs.declared.operators.Op.{Op}
 use Rattle.mir_base.specs.declared.operators.Op.TheVariants.{Div, Mod}
 use Rattle.mir_base.specs.declared.instructions.Operand.{Operand}
@@ -15,55 +17,30 @@ use Rattle.mir_base.specs.Numbers.{is_dividing, wrapped}
 use Rattle.mir_base.specs.Shapes.{AllBelow, rhs_vars}
 use Rattle.flow_graph.specs.declared.nodes.Node.{Node}
 use Rattle.flow_graph.specs.declared.nodes.Node.TheVariants.{Start, Skip, Assign, Print, Guard, Call, Test, Return}
-use Rattle.flow_graph.specs.Calls.{NodesCall, node_call}
-use Rattle.flow_graph.specs.Dividing.{DividesOf, DividesUnchanged}
-use Rattle.flow_graph.specs.Edges.{IsSplit, edges_from, preds_among, preds_of}
-use Rattle.flow_graph.specs.EdgeLaws.{edges_alike}
-use Rattle.flow_graph.specs.Graphs.{GraphShape, IsEdge, Reached, at_start, along, node_succs, node_vars, succs_at, succs_of}
-use Rattle.flow_graph.specs.NodeLaws.{mapped_from}
+use Rattle.flow_graph.specs.Dividing.{DividesUnchanged}
+use Rattle.flow_graph.specs.Graphs.{CanMake, GraphShape, node_vars}
+use Rattle.flow_graph.specs.NodeByNode.{IsInPlace, IsNodeByNode, in_place_assign, in_place_itself, kept_can, kept_divides}
+use Rattle.held_assign.specs.HeldLaws.{found_below}
 use Rattle.term_flow.specs.declared.reading.ByConstant.{ByConstant}
 use Rattle.term_flow.specs.Termed.{AreTermed, joined_rhs, termed_node}
 use Rattle.term_flow.specs.Orders.{in_order, is_turned}
-use Rattle.term_flow.specs.Terms.{joined_of, joined_to, left_read, read_binary, read_rhs, right_read}
+use Rattle.term_flow.specs.Terms.{is_term, joined_of, joined_to, left_read, read_binary, read_rhs, right_read}
 use Rattle.term_flow.proofs.JoinLaws.{held_gives}
 use Rattle.term_flow.proofs.OrderLaws.{order_below, unturned}
 use Rattle.term_flow.proofs.TermLaws.{reads}
 
 -- ---- one node
 
-module _ (held : ℕ → Option Rhs) where
-  -- the successors of a node stay
-  termed_succs_of : (node : Node) → node_succs (termed_node held node) ≡ node_succs node
-  termed_succs_of (Start next) = refl
-  termed_succs_of (Skip next) = refl
-  termed_succs_of (Assign x rhs next) = refl
-  termed_succs_of (Print a next) = refl
-  termed_succs_of (Guard test number next) = refl
-  termed_succs_of (Call into unit operands next) = refl
-  termed_succs_of (Test test taken other) = refl
-  termed_succs_of (Return a) = refl
-
-  -- its call stays
-  termed_call : (node : Node) → node_call (termed_node held node) ≡ node_call node
-  termed_call (Start next) = refl
-  termed_call (Skip next) = refl
-  termed_call (Assign x rhs next) = refl
-  termed_call (Print a next) = refl
-  termed_call (Guard test number next) = refl
-  termed_call (Call into unit operands next) = refl
-  termed_call (Test test taken other) = refl
-  termed_call (Return a) = refl
-
-  -- only Start becomes Start
-  pub termed_start : (node : Node) (s : ℕ) → termed_node held node ≡ Start s → node ≡ Start s
-  termed_start (Start next) s e = e
-  termed_start (Skip next) s e = cc
-  termed_start (Assign x rhs next) s e = cc
-  termed_start (Print a next) s e = cc
-  termed_start (Guard test number next) s e = cc
-  termed_start (Call into unit operands next) s e = cc
-  termed_start (Test test taken other) s e = cc
-  termed_start (Return a) s e = cc
+-- the new node stands in the place of the old one
+pub termed_in_place : (held : ℕ → Option Rhs) (node : Node) → IsInPlace node (termed_node held node)
+termed_in_place held (Start next) = in_place_itself (Start next)
+termed_in_place held (Skip next) = in_place_itself (Skip next)
+termed_in_place held (Assign x rhs next) = in_place_assign x rhs (joined_rhs held rhs) next
+termed_in_place held (Print a next) = in_place_itself (Print a next)
+termed_in_place held (Guard test number next) = in_place_itself (Guard test number next)
+termed_in_place held (Call into unit operands next) = in_place_itself (Call into unit operands next)
+termed_in_place held (Test test taken other) = in_place_itself (Test test taken other)
+termed_in_place held (Return a) = in_place_itself (Return a)
 
 -- ---- variables of a node
 
@@ -130,78 +107,17 @@ division_same held op left right e =
     ap (λ o. in_order (unwrap_or (joined_of held o) (Binary op left right))) (unread op left right parts.0)
     ∙ ap (λ c. if c && is_turned left right then Binary op right left else Binary op left right) (unturned op parts.0)
 
--- ---- lists of nodes
-
--- lists of which one is made of the other place by place are equally long
-same_length : (xs ys : List Node) (f : ℕ → Node → Node) → ((n : ℕ) → slice_get xs n ≡ option_map (f n) (slice_get ys n)) → length xs ≡ length ys
-same_length [] [] f are = refl
-same_length [] (y ∷ ys) f are = let e : None ≡ Some (f 0 y) = are 0 in cc
-same_length (x ∷ xs) [] f are = let e : Some x ≡ None = are 0 in cc
-same_length (x ∷ xs) (y ∷ ys) f are = ap suc (same_length xs ys (λ n. f (suc n)) (λ n. are (suc n)))
-
 -- ---- the termed nodes
 
 module _ (graph : GraphShape) (nodes : List Node) (are : AreTermed graph nodes) where
-  pub termed_length : length nodes ≡ length graph.nodes
-  termed_length = same_length nodes graph.nodes (λ n. termed_node (are.held n)) are.nodes_are
-
-  succs_of_termed : (n : ℕ) (o : Option Node) → succs_of (option_map (termed_node (are.held n)) o) ≡ succs_of o
-  succs_of_termed n None = refl
-  succs_of_termed n (Some node) = termed_succs_of (are.held n) node
-
-  pub termed_succs : (n : ℕ) → succs_at nodes n ≡ succs_at graph.nodes n
-  termed_succs n = ap succs_of (are.nodes_are n) ∙ succs_of_termed n (slice_get graph.nodes n)
-
-  -- an edge stays
-  edge_on : (m slot s : ℕ) → IsEdge graph.nodes m slot s → IsEdge nodes m slot s
-  edge_on m slot s edge = ap (λ l. slice_get l slot) (termed_succs m) ∙ edge
-
-  -- and none is new
-  pub edge_back : (m slot s : ℕ) → IsEdge nodes m slot s → IsEdge graph.nodes m slot s
-  edge_back m slot s edge = ap (λ l. slice_get l slot) (sym (termed_succs m)) ∙ edge
-
-  -- so all nodes stay reached
-  pub termed_reached : (n : ℕ) → Reached graph.nodes n → Reached nodes n
-  termed_reached n at_start = at_start
-  termed_reached n (along m slot s reached edge) = along m slot n (termed_reached m reached) (edge_on m slot n edge)
-
-  -- what stands at a place came from the node there
-  pub came_from : (n : ℕ) (node : Node) → slice_get nodes n ≡ Some node → (before : Node) × (slice_get graph.nodes n ≡ Some before) × (termed_node (are.held n) before ≡ node)
-  came_from n node e = let from = mapped_from (termed_node (are.held n)) (slice_get graph.nodes n) node (sym (are.nodes_are n) ∙ e) in (from.0, from.1, from.2)
-
-  pub termed_calls : (called count : ℕ) → NodesCall nodes called count → NodesCall graph.nodes called count
-  termed_calls called count c =
-      let from = came_from c.number c.node c.here in
-      record { number = c.number; node = from.0; here = from.1; calls = sym (termed_call (are.held c.number) from.0) ∙ ap node_call from.2 ∙ c.calls }
-
-  -- ---- splitness: the edges are the same, and Skips stay
-
-  termed_edges : edges_from 0 nodes ≡ edges_from 0 graph.nodes
-  termed_edges = edges_alike 0 nodes graph.nodes termed_length termed_succs
-
-  termed_preds : (s : ℕ) → preds_of nodes s ≡ preds_of graph.nodes s
-  termed_preds s = ap (preds_among s) termed_edges
-
-  skip_stays : (n s : ℕ) → slice_get graph.nodes n ≡ Some (Skip s) → slice_get nodes n ≡ Some (Skip s)
-  skip_stays n s here = are.nodes_are n ∙ ap (option_map (termed_node (are.held n))) here
-
-  pub termed_split : IsSplit graph.nodes → IsSplit nodes
-  termed_split split = record {
-    by_skips = λ s i n s_in many at.
-        skip_stays n s (split.by_skips s i n (subst (λ l. s < l) termed_length s_in) (subst (λ l. 1 < length l) (termed_preds s) many) (sym (ap (λ l. slice_get l i) (termed_preds s)) ∙ at));
-    once = λ s i j n s_in many at at'.
-        split.once s i j n (subst (λ l. s < l) termed_length s_in) (subst (λ l. 1 < length l) (termed_preds s) many) (sym (ap (λ l. slice_get l i) (termed_preds s)) ∙ at) (sym (ap (λ l. slice_get l j) (termed_preds s)) ∙ at');
-  }
-
-  -- ---- divisions stay
-
-  division_stays : (n x : ℕ) (op : Op) (left right : Operand) → DividesOf graph.nodes n x op left right → DividesOf nodes n x op left right
-  division_stays n x op left right at = record {
-    next = at.next;
-    is = are.nodes_are n ∙ ap (option_map (termed_node (are.held n))) at.is
-        ∙ ap (λ r. Some (Assign x r at.next)) (division_same (are.held n) op left right at.may_trap);
-    may_trap = at.may_trap;
-  }
+  -- each node is put anew in its place
+  abbrev pub termed_by : IsNodeByNode graph.nodes nodes
+  termed_by = record { becomes = λ n. termed_node (are.held n); in_place = λ n. termed_in_place (are.held n); nodes_are = are.nodes_are }
 
   pub termed_divides : DividesUnchanged graph.nodes nodes
-  termed_divides = record { place = λ n. n; stays = division_stays; in_order = λ n m x y op other at at' lt. lt }
+  termed_divides = kept_divides graph.nodes nodes termed_by (λ n x op left right next may. ap (λ r. Assign x r next) (division_same (are.held n) op left right may))
+
+  pub termed_can_make : CanMake graph.vars graph.received graph.nodes → CanMake graph.vars graph.received nodes
+  termed_can_make can = kept_can graph.nodes nodes termed_by graph.vars graph.received can (λ n node here.
+      let low = found_below (λ x t. is_term t) graph can n (are.held n) (λ v. are.is_held n v (slice_get_within graph.nodes n node here)) in
+      node_below (length graph.vars) (are.held n) low node (can.below n node here))

@@ -4,8 +4,7 @@ use Rattle.std.specs.Option.{unwrap_or}
 use Rattle.mir_base.specs.declared.instructions.Rhs.{Rhs}
 use Rattle.flow_graph.specs.declared.nodes.Node.{Node}
 use Rattle.flow_graph.specs.declared.nodes.Node.TheVariants.{Start, Skip, Assign, Print, Guard, Call, Test, Return}
-use Rattle.flow_graph.specs.Edges.{IsSplit}
-use Rattle.flow_graph.specs.Graphs.{GraphShape, succs_at}
+use Rattle.flow_graph.specs.Graphs.{GraphShape}
 use Rattle.held_assign.specs.Holding.{IsHeldRhs}
 use Rattle.term_flow.specs.Orders.{in_order}
 use Rattle.term_flow.specs.Terms.{is_term, joined_of, read_rhs}
@@ -51,11 +50,3 @@ pub record IsTermed (graph termed : GraphShape) : Type 0 where
 -- no other graph is the termed one
 abbrev pub IsOnlyTermed : GraphShape → GraphShape → Type 0
 IsOnlyTermed graph termed = (other : GraphShape) → IsTermed graph other → other ≡ termed
-
--- each node has the successors that it had
-abbrev pub KeepsSuccs : GraphShape → GraphShape → Type 0
-KeepsSuccs graph termed = (n : ℕ) → succs_at termed.nodes n ≡ succs_at graph.nodes n
-
--- a split graph stays split
-abbrev pub KeepsSplit : GraphShape → GraphShape → Type 0
-KeepsSplit graph termed = IsSplit graph.nodes → IsSplit termed.nodes

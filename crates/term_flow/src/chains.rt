@@ -1,7 +1,7 @@
 // The graph in which operators with constants on one another are one, and operands stand in one order.
 ghost use Rattle.std.specs.Prelude.{IfOk};
-ghost use Rattle.flow_graph.specs.Passes.{GraphDividesUnchanged, GraphKeeps};
-ghost use Rattle.term_flow.specs.Termed.{IsOnlyTermed, IsTermed, KeepsSplit, KeepsSuccs};
+ghost use Rattle.flow_graph.specs.Passes.{GraphDividesUnchanged, GraphKeeps, KeepsSplit, KeepsSuccs};
+ghost use Rattle.term_flow.specs.Termed.{IsOnlyTermed, IsTermed};
 
 use crate::joining::PickTerms;
 use crate::rewriting::termed_nodes;
@@ -20,10 +20,10 @@ use std::alloc::Global;
 /// - t is `a xor k`: `t xor c` becomes `a xor m`, and a where m is 0; `t = c` and `t != c` become `a = m` and `a != m`.
 /// - t is a product of a and k, or what `and`, `or`, `min` or `max` makes of them: the same operator with a constant on
 ///   t becomes one on a.
-/// - t is a shift of a by a constant: the same shift of t by a constant becomes one of a, where both together go at most
-///   63 places; a shift to the right with the sign always does, and then goes 63 places at most.
-/// - t is a comparison, a relation or `!`: `t != 0` and `t = 1` become it, `t = 0` and `t != 1` the one that holds where
-///   it does not, and with any other c `t = c` becomes 0 and `t != c` becomes 1.
+/// - t is a shift of a by a constant: the same shift of t by a constant becomes one of a, where both together go at
+///   most 63 places; a shift to the right with the sign always does, and then goes 63 places at most.
+/// - t is a comparison, a relation or `!`: `t != 0` and `t = 1` become it, `t = 0` and `t != 1` the one that holds
+///   where it does not, and with any other c `t = c` becomes 0 and `t != c` becomes 1.
 ///
 /// Then each whose operator gives the same with its operands turned (`+ * min max = != and or xor`): a variable stands
 /// left of a constant, and of two variables the one of the lower number stands left.

@@ -3,13 +3,13 @@ use Rattle.flow_graph.specs.Graphs.{IsGraph, succs_at}
 use Rattle.flow_graph.specs.Edges.{IsSplit}
 use Rattle.flow_graph.specs.Dividing.{DividesUnchanged}
 use Rattle.flow_graph.specs.KeepsLaws.{made_keeps, same_globals}
+use Rattle.flow_graph.specs.NodeByNode.{kept_calls, kept_reached, kept_split, kept_succs}
 use Rattle.held_assign.specs.HeldValueLaws.{cheaper_by_held, same_by_held}
 use Rattle.held_assign.specs.Rows.{held_at}
 use Rattle.compare_flow.specs.Compared.{AreCompared, IsCompared}
 use Rattle.compare_flow.specs.ComparedLaws.{compared_is_one}
 use Rattle.compare_flow.proofs.Meaning.{code_same}
-use Rattle.compare_flow.proofs.Shapes.{compared_calls, compared_divides, compared_split, compared_succs}
-use Rattle.compare_flow.proofs.Whole.{all_reached, compared_can_make}
+use Rattle.compare_flow.proofs.Shapes.{compared_by, compared_can_make, compared_divides}
 use Rattle.compare_flow.proofs.comparing.comparisons.Goals as goal
 use Rattle.compare_flow.proofs.comparing.comparisons.Goals.{In_ok-nodes, In_ok-compared}
 
@@ -30,7 +30,7 @@ with_nodes-requires c =
 whole : (c : In_ok-compared) → c.in_ok-compared.compared.nodes ≡ c.in_ok-nodes.nodes.items
 whole c =
     let known = (goal.at.In_ok-compared c).In_ok-nodes in
-    c.in_ok-compared.ensures.whole (all_reached c.args.graph.now c.in_ok-nodes.nodes.items (are known) (is_graph known).reached)
+    c.in_ok-compared.ensures.whole (kept_reached c.args.graph.now.nodes c.in_ok-nodes.nodes.items (compared_by c.args.graph.now c.in_ok-nodes.nodes.items (are known)) (is_graph known).reached)
 
 -- the answer is the exact graph
 exact : (c : In_ok-compared) → IsCompared c.args.graph.now c.in_ok-compared.compared
@@ -57,7 +57,7 @@ returns-clause-keeps c =
     let nodes = c.in_ok-nodes.nodes.items in
     let known = (goal.at.returns-clause-keeps c).In_ok-nodes in
     let can = (is_graph known).can in
-    made_keeps graph c.in_ok-compared.compared nodes c.in_ok-compared.ensures.made.name_is (same_globals graph c.in_ok-compared.compared c.in_ok-compared.ensures.made.shared_is c.in_ok-compared.ensures.made.vars_are) (same_by_held graph can nodes (code_same graph nodes (are known))) (cheaper_by_held graph can nodes (code_same graph nodes (are known))) (compared_calls graph nodes (are known))
+    made_keeps graph c.in_ok-compared.compared nodes c.in_ok-compared.ensures.made.name_is (same_globals graph c.in_ok-compared.compared c.in_ok-compared.ensures.made.shared_is c.in_ok-compared.ensures.made.vars_are) (same_by_held graph can nodes (code_same graph nodes (are known))) (cheaper_by_held graph can nodes (code_same graph nodes (are known))) (kept_calls graph.nodes nodes (compared_by graph nodes (are known)))
     c.in_ok-compared.ensures.same c.in_ok-compared.ensures.cheaper c.in_ok-compared.ensures.calls
 
 pub returns-clause-divides : goal.returns-clause-divides
@@ -68,9 +68,9 @@ returns-clause-divides c =
 pub returns-clause-succs : goal.returns-clause-succs
 returns-clause-succs c = λ n.
     let known = goal.at.returns-clause-succs c in
-    ap (λ l. succs_at l n) (whole known.In_ok-compared) ∙ compared_succs c.args.graph.now c.in_ok-nodes.nodes.items (are known.In_ok-nodes) n
+    ap (λ l. succs_at l n) (whole known.In_ok-compared) ∙ kept_succs c.args.graph.now.nodes c.in_ok-nodes.nodes.items (compared_by c.args.graph.now c.in_ok-nodes.nodes.items (are known.In_ok-nodes)) n
 
 pub returns-clause-split : goal.returns-clause-split
 returns-clause-split c = λ split.
     let known = goal.at.returns-clause-split c in
-    subst IsSplit (sym (whole known.In_ok-compared)) (compared_split c.args.graph.now c.in_ok-nodes.nodes.items (are known.In_ok-nodes) split)
+    subst IsSplit (sym (whole known.In_ok-compared)) (kept_split c.args.graph.now.nodes c.in_ok-nodes.nodes.items (compared_by c.args.graph.now c.in_ok-nodes.nodes.items (are known.In_ok-nodes)) split)

@@ -3,6 +3,7 @@ use Rattle.flow_graph.specs.Graphs.{IsGraph, succs_at}
 use Rattle.flow_graph.specs.Edges.{IsSplit}
 use Rattle.flow_graph.specs.Dividing.{DividesStay}
 use Rattle.flow_graph.specs.KeepsLaws.{made_keeps, same_globals}
+use Rattle.flow_graph.specs.NodeByNode.{kept_calls, kept_reached, kept_split, kept_succs}
 use Rattle.held_assign.specs.HeldValueLaws.{cheaper_by_held, same_by_held}
 use Rattle.held_assign.specs.Rows.{held_at}
 use Rattle.copy_flow.specs.Copied.{AreCopied, IsCopied}
@@ -10,8 +11,7 @@ use Rattle.copy_flow.specs.CopiedLaws.{copied_is_one}
 use Rattle.copy_flow.specs.ByRows.{read_by}
 use Rattle.copy_flow.proofs.Found.{found_read}
 use Rattle.copy_flow.proofs.Meaning.{code_same}
-use Rattle.copy_flow.proofs.Shapes.{copied_calls, copied_divides, copied_split, copied_succs}
-use Rattle.copy_flow.proofs.Whole.{all_reached, copied_can_make}
+use Rattle.copy_flow.proofs.Shapes.{copied_by, copied_can_make, copied_divides}
 use Rattle.copy_flow.proofs.copying.copies.Goals as goal
 use Rattle.copy_flow.proofs.copying.copies.Goals.{In_ok-nodes, In_ok-copied}
 
@@ -38,7 +38,7 @@ with_nodes-requires c =
 whole : (c : In_ok-copied) → c.in_ok-copied.copied.nodes ≡ c.in_ok-nodes.nodes.items
 whole c =
     let known = (goal.at.In_ok-copied c).In_ok-nodes in
-    c.in_ok-copied.ensures.whole (all_reached c.args.graph.now c.in_ok-nodes.nodes.items (are known) (is_graph known).reached)
+    c.in_ok-copied.ensures.whole (kept_reached c.args.graph.now.nodes c.in_ok-nodes.nodes.items (copied_by c.args.graph.now c.in_ok-nodes.nodes.items (are known)) (is_graph known).reached)
 
 -- the answer is the exact graph
 exact : (c : In_ok-copied) → IsCopied c.args.graph.now c.in_ok-copied.copied
@@ -65,7 +65,7 @@ returns-clause-keeps c =
     let nodes = c.in_ok-nodes.nodes.items in
     let known = (goal.at.returns-clause-keeps c).In_ok-nodes in
     let can = (is_graph known).can in
-    made_keeps graph c.in_ok-copied.copied nodes c.in_ok-copied.ensures.made.name_is (same_globals graph c.in_ok-copied.copied c.in_ok-copied.ensures.made.shared_is c.in_ok-copied.ensures.made.vars_are) (same_by_held graph can nodes (code_same graph nodes (are known))) (cheaper_by_held graph can nodes (code_same graph nodes (are known))) (copied_calls graph nodes (are known))
+    made_keeps graph c.in_ok-copied.copied nodes c.in_ok-copied.ensures.made.name_is (same_globals graph c.in_ok-copied.copied c.in_ok-copied.ensures.made.shared_is c.in_ok-copied.ensures.made.vars_are) (same_by_held graph can nodes (code_same graph nodes (are known))) (cheaper_by_held graph can nodes (code_same graph nodes (are known))) (kept_calls graph.nodes nodes (copied_by graph nodes (are known)))
     c.in_ok-copied.ensures.same c.in_ok-copied.ensures.cheaper c.in_ok-copied.ensures.calls
 
 pub returns-clause-divides : goal.returns-clause-divides
@@ -76,9 +76,9 @@ returns-clause-divides c =
 pub returns-clause-succs : goal.returns-clause-succs
 returns-clause-succs c = λ n.
     let known = goal.at.returns-clause-succs c in
-    ap (λ l. succs_at l n) (whole known.In_ok-copied) ∙ copied_succs c.args.graph.now c.in_ok-nodes.nodes.items (are known.In_ok-nodes) n
+    ap (λ l. succs_at l n) (whole known.In_ok-copied) ∙ kept_succs c.args.graph.now.nodes c.in_ok-nodes.nodes.items (copied_by c.args.graph.now c.in_ok-nodes.nodes.items (are known.In_ok-nodes)) n
 
 pub returns-clause-split : goal.returns-clause-split
 returns-clause-split c = λ split.
     let known = goal.at.returns-clause-split c in
-    subst IsSplit (sym (whole known.In_ok-copied)) (copied_split c.args.graph.now c.in_ok-nodes.nodes.items (are known.In_ok-nodes) split)
+    subst IsSplit (sym (whole known.In_ok-copied)) (kept_split c.args.graph.now.nodes c.in_ok-nodes.nodes.items (copied_by c.args.graph.now c.in_ok-nodes.nodes.items (are known.In_ok-nodes)) split)

@@ -1,6 +1,6 @@
 use Rattle.std.proofs.Common.{◌≡◌, ◌∙◌, suc, ◌+◌, ◌++◌, ◌∷◌, [], ap, arith, length, length-append, true, false}
 use Rattle.flow_graph.specs.Retained.{marked_below as rank_of}
-use Rattle.flow_graph.proofs.Ranks.{rank_more, rank_same, ranked, marks_index}
+use Rattle.flow_graph.proofs.Ranking.{rank_more, rank_same, ranked, marks_index}
 use Rattle.flow_graph.proofs.retain.ranks.Goals.{then-mark, else-mark}
 use Rattle.flow_graph.proofs.retain.ranks.Goals as goal
 

@@ -2,7 +2,7 @@ use Rattle.std.proofs.Common.{◌<◌, ◌∙◌, suc, ◌++◌, ap, sym, subst,
 use Rattle.flow_graph.specs.Retained.{marked_below, marked, redirected}
 use Rattle.flow_graph.specs.Graphs.{SuccsBelow}
 use Rattle.flow_graph.specs.BoundLaws.{succs_below}
-use Rattle.flow_graph.proofs.Ranks.{redirects_same, retain_one, marks_index}
+use Rattle.flow_graph.proofs.Ranking.{redirects_same, retain_one, marks_index}
 use Rattle.flow_graph.proofs.retain.retain.Goals as goal
 
 pub loop-node-init : goal.loop-node-init

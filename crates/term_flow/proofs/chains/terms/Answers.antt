@@ -7,14 +7,14 @@ use Rattle.flow_graph.specs.RunFrames.{IsRunFrame}
 use Rattle.flow_graph.specs.Edges.{IsSplit}
 use Rattle.flow_graph.specs.Dividing.{DividesUnchanged}
 use Rattle.flow_graph.specs.KeepsLaws.{made_keeps, same_globals}
+use Rattle.flow_graph.specs.NodeByNode.{kept_calls, kept_reached, kept_split, kept_succs}
 use Rattle.held_assign.specs.HeldValueLaws.{held_values_agree}
 use Rattle.held_assign.specs.Rows.{held_at}
 use Rattle.term_flow.specs.Termed.{AreTermed, IsTermed}
 use Rattle.term_flow.specs.TermedLaws.{termed_is_one}
 use Rattle.term_flow.proofs.Meaning.{code_cheap}
-use Rattle.term_flow.proofs.RunLaws.{cheaper_in_runs, same_in_runs}
-use Rattle.term_flow.proofs.Shapes.{termed_calls, termed_divides, termed_split, termed_succs}
-use Rattle.term_flow.proofs.Whole.{all_reached, termed_can_make}
+use Rattle.term_flow.proofs.RunLaws.{cheaper_by_code, same_by_code}
+use Rattle.term_flow.proofs.Shapes.{termed_by, termed_can_make, termed_divides}
 use Rattle.term_flow.proofs.chains.terms.Goals as goal
 use Rattle.term_flow.proofs.chains.terms.Goals.{In_ok-nodes, In_ok-termed}
 
@@ -35,7 +35,7 @@ with_nodes-requires c =
 whole : (c : In_ok-termed) → c.in_ok-termed.termed.nodes ≡ c.in_ok-nodes.nodes.items
 whole c =
     let known = (goal.at.In_ok-termed c).In_ok-nodes in
-    c.in_ok-termed.ensures.whole (all_reached c.args.graph.now c.in_ok-nodes.nodes.items (are known) (is_graph known).reached)
+    c.in_ok-termed.ensures.whole (kept_reached c.args.graph.now.nodes c.in_ok-nodes.nodes.items (termed_by c.args.graph.now c.in_ok-nodes.nodes.items (are known)) (is_graph known).reached)
 
 -- the answer is the exact graph
 exact : (c : In_ok-termed) → IsTermed c.args.graph.now c.in_ok-termed.termed
@@ -63,7 +63,7 @@ returns-clause-keeps c =
     let known = (goal.at.returns-clause-keeps c).In_ok-nodes in
     let can = (is_graph known).can in
     let cheap = λ (f : Frame) (run : IsRunFrame (machine_of graph) f) (fits : ValuesFit f.values). code_cheap graph nodes (are known) f (held_values_agree graph can f run) fits in
-    made_keeps graph c.in_ok-termed.termed nodes c.in_ok-termed.ensures.made.name_is (same_globals graph c.in_ok-termed.termed c.in_ok-termed.ensures.made.shared_is c.in_ok-termed.ensures.made.vars_are) (same_in_runs graph nodes cheap) (cheaper_in_runs graph nodes cheap) (termed_calls graph nodes (are known))
+    made_keeps graph c.in_ok-termed.termed nodes c.in_ok-termed.ensures.made.name_is (same_globals graph c.in_ok-termed.termed c.in_ok-termed.ensures.made.shared_is c.in_ok-termed.ensures.made.vars_are) (same_by_code graph nodes cheap) (cheaper_by_code graph nodes cheap) (kept_calls graph.nodes nodes (termed_by graph nodes (are known)))
     c.in_ok-termed.ensures.same c.in_ok-termed.ensures.cheaper c.in_ok-termed.ensures.calls
 
 pub returns-clause-divides : goal.returns-clause-divides
@@ -74,9 +74,9 @@ returns-clause-divides c =
 pub returns-clause-succs : goal.returns-clause-succs
 returns-clause-succs c = λ n.
     let known = goal.at.returns-clause-succs c in
-    ap (λ l. succs_at l n) (whole known.In_ok-termed) ∙ termed_succs c.args.graph.now c.in_ok-nodes.nodes.items (are known.In_ok-nodes) n
+    ap (λ l. succs_at l n) (whole known.In_ok-termed) ∙ kept_succs c.args.graph.now.nodes c.in_ok-nodes.nodes.items (termed_by c.args.graph.now c.in_ok-nodes.nodes.items (are known.In_ok-nodes)) n
 
 pub returns-clause-split : goal.returns-clause-split
 returns-clause-split c = λ split.
     let known = goal.at.returns-clause-split c in
-    subst IsSplit (sym (whole known.In_ok-termed)) (termed_split c.args.graph.now c.in_ok-nodes.nodes.items (are known.In_ok-nodes) split)
+    subst IsSplit (sym (whole known.In_ok-termed)) (kept_split c.args.graph.now.nodes c.in_ok-nodes.nodes.items (termed_by c.args.graph.now c.in_ok-nodes.nodes.items (are known.In_ok-nodes)) split)

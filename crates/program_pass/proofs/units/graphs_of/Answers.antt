@@ -1,8 +1,8 @@
 use Rattle.std.proofs.Common.{◌≡◌, ◌∙◌, ◌+◌, length, ap, arith}
 use Rattle.std.proofs.lemmas.List.{length_push}
 use Rattle.flow_graph.specs.LoweringLaws.{fits_lower}
-use Rattle.constant_args.proofs.Made.{fronts_more}
-use Rattle.constant_args.proofs.graphs.graphs_of.Goals as goal
+use Rattle.program_pass.specs.FrontLaws.{fronts_more}
+use Rattle.program_pass.proofs.units.graphs_of.Goals as goal
 
 pub lowered_clean-requires : goal.lowered_clean-requires
 lowered_clean-requires c = fits_lower c.args.program.now.units c.args.program.now.globals c.unit.result.now c.unit.ensures.fits c.unit.ensures.shares

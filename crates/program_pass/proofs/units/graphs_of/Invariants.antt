@@ -1,6 +1,6 @@
 use Rattle.std.proofs.Common.{◌≡◌, length}
-use Rattle.constant_args.proofs.Made.{AreFrontsBelow}
-use Rattle.constant_args.proofs.graphs.graphs_of.Given as goal
+use Rattle.program_pass.specs.FrontLaws.{AreFrontsBelow}
+use Rattle.program_pass.proofs.units.graphs_of.Given as goal
 
 abbrev pub invariant-loop-number : goal.invariant-loop-number
 invariant-loop-number l = record {
