@@ -74,6 +74,14 @@ module _ {K : Type 0} {below : K → K → Type 0} {rules : Rules K} (order : Or
     pushes_none nodes list slot s false xs t off is size =
         subst (λ u. IsLeastUpper (BelowState below) s u s) (sym (none_out nodes list slot (length xs)) ∙ ap (out_of along nodes list slot) is) (passes_none s (length xs) (size ∙ sym (ap size_of is)))
 
+    -- what comes to the last node of a block speaks of as many variables
+    pub through_long : (nodes : List Node) (list : List ℕ) (r : Bool) (ys : List K) (s : NodeState K) → state_where r ys ≡ through_nodes along nodes list s → length ys ≡ size_of s
+    through_long nodes list r ys s is = sym (long r) ∙ ap size_of is ∙ through_size laws nodes list s
+      where
+        long : (r : Bool) → size_of (state_where r ys) ≡ length ys
+        long true = refl
+        long false = refl
+
     -- what leaves a block speaks of as many variables
     pub leaves_long : (nodes : List Node) (list : List ℕ) (slot : ℕ) (r : Bool) (ys : List K) (s : NodeState K) → state_where r ys ≡ out_of along nodes list slot s → length ys ≡ size_of s
     leaves_long nodes list slot r ys s is = sym (long r) ∙ ap size_of is ∙ sized (slice_get nodes (last_of list)) ∙ through_size laws nodes (take (length list - 1) list) s

@@ -1,20 +1,21 @@
 -- What a push leaves, where what is not news has passed.
-use Rattle.std.proofs.Common.{◌≡◌, inl, inr, ℕ, ◌<◌, Bool, true, false, List, length, refl, sym, ap, ◌∙◌, subst}
+use Rattle.std.proofs.Common.{◌≡◌, inl, inr, ℕ, suc, ◌-◌, ◌<◌, Bool, true, false, ◌&&◌, if◌then◌else◌, List, [], ◌∷◌, length, take, slice_get, Option, Some, None, refl, sym, ap, ◌∙◌, subst}
 use Rattle.std.proofs.lemmas.Bool.{cases_Bool}
 use Rattle.fix_solve.specs.Order.{IsLeastUpper}
 use Rattle.fix_solve.specs.Pointwise.{pointwise_refl}
 use Rattle.flow_graph.specs.declared.nodes.Node.{Node}
-use Rattle.cond_flow.specs.Blockwise.{out_of}
+use Rattle.flow_graph.specs.declared.nodes.Node.TheVariants.{Start, Skip, Assign, Print, Guard, Call, Test, Return}
+use Rattle.cond_flow.specs.Blockwise.{along_at, last_of, out_of, through_nodes}
 use Rattle.cond_flow.specs.Catching.{AgreeOff, AreOff, HasPassed, IsCaught}
 use Rattle.cond_flow.specs.NewsShapes.{NewsShape, is_among}
-use Rattle.cond_flow.specs.Passing.{passed_along}
+use Rattle.cond_flow.specs.Passing.{known_after, passed_along, passes}
 use Rattle.cond_flow.specs.Raising.{IsRaised}
-use Rattle.cond_flow.specs.Reading.{AreApart, ReadsAlike}
+use Rattle.cond_flow.specs.Reading.{AllGoOn, AreApart, ReadsAlike, goes_on}
 use Rattle.cond_flow.specs.Rules.{OutsideShape, Rules, FrameRules, OrderRules, RisingRules, known_at, within}
 use Rattle.cond_flow.specs.States.{NodeState, Unreached, Knows, BelowState, is_reached, state_where}
 use Rattle.cond_flow.proofs.RaisingLaws.{raised_joins}
 use Rattle.cond_flow.specs.WithinLaws.{frame_within, order_within, rising_within}
-use Rattle.cond_flow.proofs.ReadingLaws.{AgreeStates, agree_node, out_alike, out_stays, reads_within, states_without, stays_without}
+use Rattle.cond_flow.proofs.ReadingLaws.{AgreeStates, agree_node, last_at, out_alike, out_stays, reads_within, states_without, stays_without, take_some}
 
 -- a state is reached where it is said so
 pub reached_where : {K : Type 0} (b : Bool) (ks : List K) → is_reached (state_where b ks) ≡ b
@@ -54,6 +55,43 @@ module _ {K : Type 0} {below : K → K → Type 0} {rules : Rules K} (frame : Fr
       states_without rules outside xs ys _ _
       (out_alike (frame_within rules outside frame) (order_within outside order) (rising_within outside rising) shared received xs ys nodes list slot some long (reads_within rules outside nodes list xs ys reads))
 
+  -- something passes a node that goes on
+  along_on : (node : Node) (s : NodeState K) → goes_on node ≡ true → is_reached s ≡ true
+      → is_reached (passed_along (within outside rules) shared received node 0 s) ≡ true
+  along_on (Start next) (Knows xs) on here = refl
+  along_on (Skip next) (Knows xs) on here = refl
+  along_on (Assign x rhs next) (Knows xs) on here = refl
+  along_on (Print a next) (Knows xs) on here = refl
+  along_on (Guard test number next) (Knows xs) on here = refl
+  along_on (Call into unit operands next) (Knows xs) on here = refl
+  along_on (Test test taken other) s on here = absurd (cc)
+  along_on (Return a) s on here = absurd (cc)
+  along_on node (Unreached n) on here = absurd (cc)
+
+  -- and one that may be absent
+  at_on : (o : Option Node) (s : NodeState K) → ((node : Node) → o ≡ Some node → goes_on node ≡ true) → is_reached s ≡ true
+      → is_reached (along_at (passed_along (within outside rules) shared received) o 0 s) ≡ true
+  at_on None s on here = here
+  at_on (Some node) s on here = along_on node s (on node refl) here
+
+  -- and several
+  through_on : (part : List ℕ) (s : NodeState K)
+      → ((i n : ℕ) (node : Node) → slice_get part i ≡ Some n → slice_get nodes n ≡ Some node → goes_on node ≡ true)
+      → is_reached s ≡ true → is_reached (through_nodes (passed_along (within outside rules) shared received) nodes part s) ≡ true
+  through_on [] s on here = here
+  through_on (n ∷ part) s on here =
+      through_on part _ (λ i m node at is. on (suc i) m node at is)
+      (at_on (slice_get nodes n) s (λ node is. on 0 n node refl is) here)
+
+  -- and a block
+  pub passes_on_first : (xs : List K) → slot ≡ 0 → AllGoOn nodes list → is_reached (out (Knows xs)) ≡ true
+  passes_on_first xs first all =
+      ap (λ k. is_reached (out_of (passed_along (within outside rules) shared received) nodes list k (Knows xs))) first
+      ∙ at_on (slice_get nodes (last_of list)) _
+      (λ node is. all.each (length list - 1) (last_of list) node (last_at list some) is)
+      (through_on (take (length list - 1) list) (Knows xs)
+      (λ i n node at is. all.each i n node (take_some (length list - 1) list i n at) is) refl)
+
   -- what was raised is all that is left to join
   pub past_joins : (raised : List ℕ) (xs old new : List K) → AreApart shared nodes list raised
       → HasPassed below rules (λ s. out s) raised (Knows xs) (Knows old)
@@ -85,12 +123,25 @@ module _ {K : Type 0} {below : K → K → Type 0} {rules : Rules K} (frame : Fr
         least = λ others p each. p;
       }) (λ _. refl)
 
+  -- whether a state passes a node
+  reached_along : (node : Node) (b : Bool) (zs : List K)
+      → (b && passes (within outside rules) node slot zs) ≡ is_reached (passed_along (within outside rules) shared received node slot (state_where b zs))
+  reached_along node false zs = refl
+  reached_along node true zs = by (passes (within outside rules) node slot zs)
+    where
+      by : (p : Bool) → p ≡ is_reached (if p then Knows (known_after (within outside rules) shared received node slot zs) else Unreached (length zs))
+      by true = refl
+      by false = refl
+
   -- whether anything passes is found out by what is read
-  pub passes_by_read : (xs ys : List K) → length xs ≡ length ys → ReadsAlike rules nodes list xs ys → (b : Bool) (zs : List K)
-      → state_where b zs ≡ out (Knows ys)
-      → b ≡ is_reached (out (Knows xs))
-  passes_by_read xs ys long reads b zs is =
-      sym (reached_where b zs) ∙ ap is_reached is
+  pub passes_by_read : (xs ys : List K) → length xs ≡ length ys → ReadsAlike rules nodes list xs ys → (node : Node)
+      → slice_get nodes (last_of list) ≡ Some node → (b : Bool) (zs : List K)
+      → state_where b zs ≡ through_nodes (passed_along (within outside rules) shared received) nodes (take (length list - 1) list) (Knows ys)
+      → (b && passes (within outside rules) node slot zs) ≡ is_reached (out (Knows xs))
+  passes_by_read xs ys long reads node at b zs is =
+      reached_along node b zs
+      ∙ ap (λ s. is_reached (passed_along (within outside rules) shared received node slot s)) is
+      ∙ ap (λ o. is_reached (along_at (passed_along (within outside rules) shared received) o slot (through_nodes (passed_along (within outside rules) shared received) nodes (take (length list - 1) list) (Knows ys)))) (sym at)
       ∙ sym (reached_alike rules xs ys _ _ (outs_alike xs ys long reads))
 
 -- ---- states of blocks as they are kept

@@ -180,7 +180,7 @@ module _ {K : Type 0} (rules : Rules K) where
   StaysAt k xs (Knows ks) = known_at rules ks k ≡ known_at rules xs k
 
 -- a place in a first part of a list
-take_some : {A : Type 0} (m : ℕ) (list : List A) (i : ℕ) (n : A) → slice_get (take m list) i ≡ Some n
+pub take_some : {A : Type 0} (m : ℕ) (list : List A) (i : ℕ) (n : A) → slice_get (take m list) i ≡ Some n
     → slice_get list i ≡ Some n
 take_some zero [] i n at = at
 take_some zero (x ∷ list) i n at = cc
@@ -189,7 +189,7 @@ take_some (suc m) (x ∷ list) zero n at = at
 take_some (suc m) (x ∷ list) (suc i) n at = take_some m list i n at
 
 -- the last of these nodes is one of them
-last_at : (list : List ℕ) → 0 < length list → slice_get list (length list - 1) ≡ Some (last_of list)
+pub last_at : (list : List ℕ) → 0 < length list → slice_get list (length list - 1) ≡ Some (last_of list)
 last_at list some = slice_get-get_or list (length list - 1) 0 (omega (arith, some))
 
 module _ {K : Type 0} {below : K → K → Type 0} {rules : Rules K} (frame : FrameRules rules) (order : OrderRules below rules) (rising : RisingRules below rules) (shared : ℕ) (received : List ℕ) where

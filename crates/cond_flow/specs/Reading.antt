@@ -44,6 +44,24 @@ pub record IsApart (shared : ℕ) (nodes : List Node) (list : List ℕ) (k : ℕ
 pub record AreApart (shared : ℕ) (nodes : List Node) (list variables : List ℕ) : Type 0 where
   pub each : (k : ℕ) → is_among variables k ≡ true → IsApart shared nodes list k
 
+-- ---- what passes whatever is known
+
+-- the node passes its state along its first edge whatever is known
+abbrev pub goes_on : Node → Bool
+goes_on (Start next) = true
+goes_on (Skip next) = true
+goes_on (Assign x rhs next) = true
+goes_on (Print a next) = true
+goes_on (Guard test number next) = true
+goes_on (Call into unit operands next) = true
+goes_on (Test test taken other) = false
+goes_on (Return a) = false
+
+-- each of these nodes does
+pub record AllGoOn (nodes : List Node) (list : List ℕ) : Type 0 where
+  pub each : (i n : ℕ) (node : Node) → slice_get list i ≡ Some n → slice_get nodes n ≡ Some node
+      → goes_on node ≡ true
+
 -- ---- what is read
 
 -- the same is known of the variables that the node reads

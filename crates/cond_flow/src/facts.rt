@@ -1,6 +1,6 @@
 // What is known of each variable, as it is kept: in two lists, so that it takes little room and is joined in few steps.
 ghost use Rattle.std.specs.Prelude.{◌≡◌, ◌↔◌, ◌<◌, ◌≤◌, ℕ, ℤ, [], ◌∷◌, false, true, length, replicate, slice_index_or, slice_set, IfOk};
-ghost use Rattle.cond_flow.specs.FactLists.{decoded_each};
+ghost use Rattle.cond_flow.specs.FactLists.{JoinedCode, StaysCode, decoded_each};
 ghost use Rattle.cond_flow.specs.States.{joined_each};
 ghost use Rattle.cond_flow.specs.NewsShapes.{IsNotedIf};
 ghost use Rattle.cond_flow.specs.Raising.{IsRaised, KeepsRaised};
@@ -47,7 +47,7 @@ pub struct Facts<K: Coded> {
 
 impl<K: Coded> Model for Facts<K> {
     ghost use Rattle.std.specs.Prelude.{◌≡◌, List, length};
-    ghost use Rattle.cond_flow.specs.FactLists.{decoded_each};
+    ghost use Rattle.cond_flow.specs.FactLists.{JoinedCode, StaysCode, decoded_each};
 
     ghost Value = { List K };
 
@@ -298,8 +298,7 @@ fn join_lists<K: Knowledge>(
 {
     let mut changed = false;
     for i in 0..kinds.len() {
-        let other = K::of_code(other_kinds[i], &other_numbers[i]);
-        changed = changed | join_at(kinds, numbers, i, other, other_kinds[i], other_numbers[i]);
+        changed = changed | join_at::<K>(kinds, numbers, i, other_kinds[i], &other_numbers[i]);
     }
     changed
 }
@@ -327,17 +326,8 @@ fn join_noted<K: Knowledge>(
 {
     let mut changed = false;
     for i in 0..kinds.len() {
-        let other = K::of_code(other_kinds[i], &other_numbers[i]);
         changed = changed
-            | join_one(
-                kinds,
-                numbers,
-                i,
-                other,
-                other_kinds[i],
-                other_numbers[i],
-                news,
-            );
+            | join_one::<K>(kinds, numbers, i, other_kinds[i], &other_numbers[i], news);
     }
     changed
 }
@@ -397,46 +387,32 @@ fn raise_at<K: Knowledge>(
         news.new (decoded_each K.decoded kinds.new numbers.new) }
 {
     if x < kinds.len() {
-        let other = K::of_code(other_kinds[x], &other_numbers[x]);
-        join_one(
-            kinds,
-            numbers,
-            x,
-            other,
-            other_kinds[x],
-            other_numbers[x],
-            news,
-        )
+        join_one::<K>(kinds, numbers, x, other_kinds[x], &other_numbers[x], news)
     } else {
         false
     }
 }
 
-/// Joins what is known of one variable, with its code, and puts it among the news if it was raised.
+/// Joins what is known of one variable, by its code, and puts it among the news if it was raised.
 fn join_one<K: Knowledge>(
     kinds: &mut [u8],
     numbers: &mut [i64],
     i: usize,
-    other: K,
     kind: u8,
-    number: i64,
+    number: &i64,
     news: &mut StateNews,
 ) -> bool
     requires there { i < length kinds.old }
     requires long { length numbers.old ≡ length kinds.old }
-    requires code { other ≡ K.decoded kind number }
     ensures long { length kinds.new ≡ length kinds.old }
     ensures numbers_long { length numbers.new ≡ length numbers.old }
-    ensures joined { decoded_each K.decoded kinds.new numbers.new
-        ≡ slice_set (decoded_each K.decoded kinds.old numbers.old) i
-        (K.rules.joined (slice_index_or (decoded_each K.decoded kinds.old numbers.old) i other)
-        other) }
+    ensures joined { JoinedCode K.rules K.decoded kinds.old numbers.old i kind number.now
+        (decoded_each K.decoded kinds.new numbers.new) }
     ensures unchanged { (result ≡ false)
-        ↔ (K.rules.joined (slice_index_or (decoded_each K.decoded kinds.old numbers.old) i other)
-        other ≡ slice_index_or (decoded_each K.decoded kinds.old numbers.old) i other) }
+        ↔ StaysCode K.rules K.decoded kinds.old numbers.old i kind number.now }
     ensures noted { IsNotedIf result i news.old news.new }
 {
-    let raised = join_at(kinds, numbers, i, other, kind, number);
+    let raised = join_at::<K>(kinds, numbers, i, kind, number);
     if raised {
         news.note(i);
     }
@@ -449,28 +425,44 @@ fn join_at<K: Knowledge>(
     kinds: &mut [u8],
     numbers: &mut [i64],
     i: usize,
-    other: K,
     kind: u8,
-    number: i64,
+    number: &i64,
 ) -> bool
     requires there { i < length kinds.old }
     requires long { length numbers.old ≡ length kinds.old }
-    requires code { other ≡ K.decoded kind number }
     ensures long { length kinds.new ≡ length kinds.old }
     ensures numbers_long { length numbers.new ≡ length numbers.old }
-    ensures joined { decoded_each K.decoded kinds.new numbers.new
-        ≡ slice_set (decoded_each K.decoded kinds.old numbers.old) i
-        (K.rules.joined (slice_index_or (decoded_each K.decoded kinds.old numbers.old) i other)
-        other) }
+    ensures joined { JoinedCode K.rules K.decoded kinds.old numbers.old i kind number.now
+        (decoded_each K.decoded kinds.new numbers.new) }
     ensures unchanged { (result ≡ false)
-        ↔ (K.rules.joined (slice_index_or (decoded_each K.decoded kinds.old numbers.old) i other)
-        other ≡ slice_index_or (decoded_each K.decoded kinds.old numbers.old) i other) }
+        ↔ StaysCode K.rules K.decoded kinds.old numbers.old i kind number.now }
 {
     if kinds[i] == kind && is_number(&numbers[i], number) {
-        return false;
+        false
+    } else {
+        join_other::<K>(kinds, numbers, i, kind, number)
     }
+}
+
+/// The same where the codes may differ.
+fn join_other<K: Knowledge>(
+    kinds: &mut [u8],
+    numbers: &mut [i64],
+    i: usize,
+    kind: u8,
+    number: &i64,
+) -> bool
+    requires there { i < length kinds.old }
+    requires long { length numbers.old ≡ length kinds.old }
+    ensures long { length kinds.new ≡ length kinds.old }
+    ensures numbers_long { length numbers.new ≡ length numbers.old }
+    ensures joined { JoinedCode K.rules K.decoded kinds.old numbers.old i kind number.now
+        (decoded_each K.decoded kinds.new numbers.new) }
+    ensures unchanged { (result ≡ false)
+        ↔ StaysCode K.rules K.decoded kinds.old numbers.old i kind number.now }
+{
     let before = K::of_code(kinds[i], &numbers[i]);
-    let after = before.joined(other);
+    let after = before.joined(K::of_code(kind, number));
     if after.is_same(before) {
         false
     } else {
@@ -480,8 +472,8 @@ fn join_at<K: Knowledge>(
 }
 
 /// Whether a number is this one.
-fn is_number(there: &i64, number: i64) -> bool
-    ensures { result ≡ true → there.now ≡ number }
+fn is_number(there: &i64, number: &i64) -> bool
+    ensures { result ≡ true → there.now ≡ number.now }
 {
-    *there == number
+    *there == *number
 }

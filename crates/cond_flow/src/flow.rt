@@ -16,9 +16,9 @@ ghost use Rattle.cond_flow.specs.Reading.{AreApart};
 ghost use Rattle.cond_flow.specs.States.{BelowState, Knows, is_reached, joined_each, size_of, state_where};
 
 use crate::news::{MOST_SMALL, StateNews};
-use crate::reading::{are_apart, take_read};
+use crate::reading::{all_go_on, are_apart, take_read};
 use crate::states::BlockState;
-use crate::transfer::{may_pass, step};
+use crate::transfer::{may_pass, step, steps_on};
 use crate::{Facts, Knowledge, Outside};
 use fix_solve::{Flow, News, Steps};
 use flow_graph::{Blocks, Graph};
@@ -322,9 +322,12 @@ impl<'a, K: Knowledge, L: Ledger> StateFlow<'a, K, L> {
             ≡ is_reached ((net_of K.rules self.now).transfer number (Knows known.now)) }
     {
         let list = self.blocks.nodes(number / 2);
-        if may_pass::<K>(self.graph.node(last(list)), number % 2) {
+        if number % 2 == 0 && all_go_on(self.graph, list) {
+            true
+        } else if may_pass::<K>(self.graph.node(last(list)), number % 2) {
             take_read(self.graph, list, known, room);
-            leave(self.graph, list, number % 2, true, room, self.outside)
+            let reaches = pass_inner(self.graph, list, true, room, self.outside);
+            steps_on(reaches, room, self.graph.node(last(list)), number % 2)
         } else {
             false
         }

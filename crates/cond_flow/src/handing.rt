@@ -38,7 +38,7 @@ pub fn handed<K: Knowledge>(
 }
 
 /// The same by the least states of the blocks.
-fn hand_blocks<K: Knowledge>(
+pub(crate) fn hand_blocks<K: Knowledge>(
     alloc: Global,
     graph: &Graph,
     blocks: &Blocks,

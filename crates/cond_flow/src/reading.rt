@@ -1,7 +1,7 @@
 // Which variables a block reads and touches, and what passes through it where only what it reads is known.
 ghost use Rattle.std.specs.Prelude.{◌≡◌, true, length};
 ghost use Rattle.flow_graph.specs.Blocks.{IsChain};
-ghost use Rattle.cond_flow.specs.Reading.{AreApart, IsApart, ReadsAlike, has_rhs, is_into, taken, taken_node, taken_rhs, taken_test, touches};
+ghost use Rattle.cond_flow.specs.Reading.{AllGoOn, AreApart, IsApart, ReadsAlike, goes_on, has_rhs, is_into, taken, taken_node, taken_rhs, taken_test, touches};
 ghost use Rattle.cond_flow.specs.Rules.{has_test, is_operand};
 
 use crate::{Facts, Knowledge};
@@ -88,6 +88,31 @@ fn is_operand(a: Operand, x: usize) -> bool
     match a {
         Operand::Var(y) => x == y,
         Operand::Const(_) => false,
+    }
+}
+
+/// Whether something passes through a block and along the first edge of its last node whatever is known: whether none of
+/// its nodes is a test or a return.
+pub(crate) fn all_go_on(graph: &Graph, list: &[usize]) -> bool
+    requires { IsChain graph.now.nodes list.now }
+    ensures { result ≡ true → AllGoOn graph.now.nodes list.now }
+{
+    for i in 0..list.len() {
+        if !goes_on(graph.node(list[i])) {
+            return false;
+        }
+    }
+    true
+}
+
+/// Whether a node passes its state along its first edge whatever is known.
+fn goes_on(node: &Node) -> bool
+    ensures { result ≡ goes_on node.now }
+{
+    match node {
+        Node::Test(_, _, _) => false,
+        Node::Return(_) => false,
+        _ => true,
     }
 }
 

@@ -85,8 +85,26 @@ pub fn rewritten_within<K: Knowledge>(
     // it does the same as the nodes that it is made of, reached or not, and those make no other calls than the graph
     ensures made { IfOk result (IsMadeWithin K.below (rules_in outside.now K.rules) graph.now) }
 {
-    let _nodes = graph.nodes();
     let nodes = nodes_become(alloc, graph, outside)?;
+    let made = made_of(alloc, graph, outside, nodes)?;
+    Ok(made)
+}
+
+/// The graph of what the nodes become where this is known outside, without those that are not reached.
+pub(crate) fn made_of<K: Knowledge>(
+    alloc: Global,
+    graph: &Graph,
+    outside: &Outside<K>,
+    nodes: Vec<Node>,
+) -> Result<Graph, Memory>
+    requires { HaveBecome K.below (rules_in outside.now K.rules) graph.now nodes.items }
+    ensures rewritten { IfOk result
+        (IsRewritten K.below (rules_in outside.now K.rules) graph.now) }
+    ensures only { IfOk result (IsOnlyRewritten K.below (rules_in outside.now K.rules) graph.now) }
+    ensures made { IfOk result (IsMadeWithin K.below (rules_in outside.now K.rules) graph.now) }
+{
+    let _ = outside;
+    let _nodes = graph.nodes();
     let made = graph.with_nodes(alloc, nodes)?;
     Ok(made)
 }
@@ -107,7 +125,7 @@ fn nodes_become<K: Knowledge>(
 }
 
 /// What the nodes of a graph become by the least states of its blocks.
-fn rewrite<K: Knowledge>(
+pub(crate) fn rewrite<K: Knowledge>(
     alloc: Global,
     graph: &Graph,
     blocks: &Blocks,

@@ -1,5 +1,5 @@
 // What passes along an edge of a node.
-ghost use Rattle.std.specs.Prelude.{◌≡◌, ◌-◌, false, true, List, length};
+ghost use Rattle.std.specs.Prelude.{◌≡◌, ◌&&◌, ◌-◌, false, true, List, length};
 ghost use Rattle.std.specs.List.{range_with_len};
 ghost use Rattle.mir_base.specs.Frames.{shared_vars};
 ghost use Rattle.cond_flow.specs.Outsides.{outside_of, rules_in};
@@ -28,6 +28,23 @@ pub(crate) fn step<K: Knowledge>(
 {
     if reached {
         pass(known, node, slot, shared, received, outside)
+    } else {
+        false
+    }
+}
+
+/// Whether `step` says that something passes.
+pub(crate) fn steps_on<K: Knowledge>(
+    reached: bool,
+    known: &Facts<K>,
+    node: &Node,
+    slot: usize,
+) -> bool
+    ensures { (outside : OutsideShape K)
+        → result ≡ (reached && passes (within outside K.rules) node.now slot known.now) }
+{
+    if reached {
+        passes(node, slot, known)
     } else {
         false
     }

@@ -24,17 +24,18 @@ loop-i-preserved g c =
     let other_long = c.requires.other_long ∙ sym c.requires.other in
     let xs = length_facts d ks ns c.requires.long in
     let ys = length_facts d c.args.other_kinds.now c.args.other_numbers.now other_long in
-    let there = facts_at d c.args.other_kinds.now c.args.other_numbers.now i 0 (pos 0) c.of_code-other.result other_long (omega (arith, lt, c.requires.other)) in
+    let other = d (get_or c.args.other_kinds.now i 0) (get_or c.args.other_numbers.now i (pos 0)) in
+    let there = facts_at d c.args.other_kinds.now c.args.other_numbers.now i 0 (pos 0) other other_long (omega (arith, lt, c.requires.other)) in
     record {
       long = c.join_one-changed.ensures.long ∙ c.loop-i.invariant.long;
       numbers_long = c.join_one-changed.ensures.numbers_long ∙ c.loop-i.invariant.numbers_long;
       joined = subst (λ z. JoinedTo r.joined r.top (decoded_each d ks ns) (decoded_each d c.args.other_kinds.now c.args.other_numbers.now) z (c.loop-i.changed || c.join_one-changed.result) (i + 1)) (sym c.join_one-changed.ensures.joined)
-          (join_step r.joined r.top (decoded_each d ks ns) (decoded_each d c.args.other_kinds.now c.args.other_numbers.now) (decoded_each d c.loop-i.kinds c.loop-i.numbers) c.loop-i.changed i _ c.join_one-changed.result c.of_code-other.result c.loop-i.invariant.joined
+          (join_step r.joined r.top (decoded_each d ks ns) (decoded_each d c.args.other_kinds.now c.args.other_numbers.now) (decoded_each d c.loop-i.kinds c.loop-i.numbers) c.loop-i.changed i _ c.join_one-changed.result other c.loop-i.invariant.joined
           (omega (arith, lt, xs)) (omega (arith, xs, ys, c.requires.other))
-          (ap (r.joined (get_or (decoded_each d c.loop-i.kinds c.loop-i.numbers) i c.of_code-other.result)) (c.of_code-other.ensures ∙ sym there)) c.join_one-changed.ensures.unchanged);
+          (ap (r.joined (get_or (decoded_each d c.loop-i.kinds c.loop-i.numbers) i other)) (sym there)) c.join_one-changed.ensures.unchanged);
       keeps = keeps_more r c.args.news.now c.loop-i.news c.join_one-changed.new.news (decoded_each d ks ns) (decoded_each d c.loop-i.kinds c.loop-i.numbers) _ c.join_one-changed.result i _ c.loop-i.invariant.keeps
           c.join_one-changed.ensures.noted c.join_one-changed.ensures.joined
-          (stays_where r (decoded_each d c.loop-i.kinds c.loop-i.numbers) _ i _ c.of_code-other.result c.join_one-changed.result c.join_one-changed.ensures.joined c.join_one-changed.ensures.unchanged);
+          (stays_where r (decoded_each d c.loop-i.kinds c.loop-i.numbers) _ i _ other c.join_one-changed.result c.join_one-changed.ensures.joined c.join_one-changed.ensures.unchanged);
     }
 
 pub returns-clause-joined : goal.returns-clause-joined

@@ -10,28 +10,28 @@ use Rattle.cond_flow.specs.Rewritten.{IsRewritten}
 use Rattle.cond_flow.specs.WithinLaws.{laws_within}
 use Rattle.cond_flow.proofs.Shapes.{become_can_make, become_calls}
 use Rattle.cond_flow.proofs.Whole.{exactly_kept}
-use Rattle.cond_flow.proofs.rewriting.rewritten_within.Goals as goal
-use Rattle.cond_flow.proofs.rewriting.rewritten_within.Goals.{In_ok-nodes, In_ok-made}
-use Rattle.cond_flow.proofs.rewriting.rewritten_within.Given.{Over}
+use Rattle.cond_flow.proofs.rewriting.made_of.Goals as goal
+use Rattle.cond_flow.proofs.rewriting.made_of.Goals.{After-nodes-nodes, In_ok-made}
+use Rattle.cond_flow.proofs.rewriting.made_of.Given.{Over}
 
 -- what holds of every graph
-is_graph : (g : Over) (c : In_ok-nodes g) → IsGraph c.args.graph.now.vars c.args.graph.now.received c.args.graph.now.nodes
+is_graph : (g : Over) (c : After-nodes-nodes g) → IsGraph c.args.graph.now.vars c.args.graph.now.received c.args.graph.now.nodes
 is_graph g c = rw (← c.nodes-nodes.ensures.value) c.nodes-nodes.ensures.graph
 
 pub with_nodes-requires : goal.with_nodes-requires
 with_nodes-requires g c =
     let graph = c.args.graph.now in
-    let are = c.in_ok-nodes.ensures in
+    let are = c.requires in
     let laws = laws_within (outside_of c.args.outside.now) g.met.K.Knowledge.laws in
-    subst (CanMake graph.vars graph.received) (sym are.are) (become_can_make laws.rewriting are.states graph.nodes graph.vars graph.received (is_graph g (goal.at.with_nodes-requires g c).In_ok-nodes).can)
+    subst (CanMake graph.vars graph.received) (sym are.are) (become_can_make laws.rewriting are.states graph.nodes graph.vars graph.received (is_graph g (goal.at.with_nodes-requires g c).After-nodes-nodes).can)
 
 -- the answer is the exact graph
 exact : (g : Over) (c : In_ok-made g) → IsRewritten g.K.Knowledge.below (rules_in c.args.outside.now g.K.Knowledge.rules) c.args.graph.now c.in_ok-made.made
 exact g c =
     let graph = c.args.graph.now in
     let laws = laws_within (outside_of c.args.outside.now) g.met.K.Knowledge.laws in
-    let are = c.in_ok-nodes.ensures in
-    let can = (is_graph g (goal.at.In_ok-made g c).In_ok-nodes).can in
+    let are = c.requires in
+    let can = (is_graph g (goal.at.In_ok-made g c).After-nodes-nodes).can in
     let made = subst (λ l. IsMade graph.name graph.shared graph.vars graph.received l c.in_ok-made.made) are.are c.in_ok-made.ensures.made in
     record {
       states = are.states;
@@ -45,7 +45,7 @@ unfolding exact
 returns-clause-made g c =
     let graph = c.args.graph.now in
     let laws = laws_within (outside_of c.args.outside.now) g.met.K.Knowledge.laws in
-    let are = c.in_ok-nodes.ensures in
+    let are = c.requires in
     record {
       rewritten = exact g (goal.at.returns-clause-made g c).In_ok-made;
       same = subst (λ l. UnitSame (graph_machine graph.shared graph.received l) (machine_of c.in_ok-made.made)) are.are c.in_ok-made.ensures.same;
