@@ -1,5 +1,5 @@
 -- Where less is known outside, less is known in the unit.
-use Rattle.std.proofs.Common.{◌≡◌, ℕ, zero, suc, ◌+◌, Bool, true, false, if◌then◌else◌, List, [], ◌∷◌, ◌++◌, length, map, replicate, slice_index_or, Option, Some, None, refl, sym, ◌∙◌, subst}
+use Rattle.std.proofs.Common.{◌≡◌, ℕ, zero, suc, ◌+◌, Bool, true, false, if◌then◌else◌, List, [], ◌∷◌, ◌++◌, length, map, replicate, slice_get, slice_index_or, Option, Some, None, refl, sym, ◌∙◌, subst}
 use Rattle.fix_solve.specs.Pointwise.{Pointwise, pointwise_refl}
 use Rattle.mir_base.specs.Frames.{shared_vars}
 use Rattle.mir_base.specs.declared.instructions.Operand.{Operand}
@@ -51,17 +51,26 @@ handed_below shared operands xs ys p = globals (shared_vars shared)
     globals [] = of_operands operands
     globals (v ∷ vs) = (below_at bound_laws.order bound_laws.rising xs ys v p, globals vs)
 
-module _ (known others : ProgramFacts) (surer : AreSurer known others) (u : ℕ) where
+-- around the unit u, which has this graph, less is known: where it is entered, and of what the units that it calls hand back
+pub record LessAround (known others : ProgramFacts) (graph : GraphShape) (u : ℕ) : Type 0 where
+  pub entry : BelowState BelowFact (row_at known.entries u) (row_at others.entries u)
+  pub backs : (n : ℕ) (into : Option ℕ) (v : ℕ) (operands : List Operand) (next : ℕ) → slice_get graph.nodes n ≡ Some (Call into v operands next) → BelowState BelowFact (row_at known.backs v) (row_at others.backs v)
+
+-- so it is where less is known everywhere
+pub less_around : (known others : ProgramFacts) (graph : GraphShape) (u : ℕ) → AreSurer known others → LessAround known others graph u
+less_around known others graph u surer = record { entry = surer.entries u; backs = λ n into v operands next here. surer.backs v }
+
+module _ (known others : ProgramFacts) (graph : GraphShape) (u : ℕ) (less : LessAround known others graph u) where
   -- what is known where the unit is entered
   entry_less : (i : ℕ) → BelowFact (known_at bound_rules (facts_in (row_at known.entries u)) i) (known_at bound_rules (facts_in (row_at others.entries u)) i)
-  entry_less i = below_at bound_laws.order bound_laws.rising _ _ i (facts_below (row_at known.entries u) (row_at others.entries u) (surer.entries u))
+  entry_less i = below_at bound_laws.order bound_laws.rising _ _ i (facts_below (row_at known.entries u) (row_at others.entries u) less.entry)
 
   -- and where its calls return
-  back_less : (v i : ℕ) → BelowFact (known_at bound_rules (back_at (rules_at known u) v) i) (known_at bound_rules (back_at (rules_at others u) v) i)
-  back_less v i =
+  back_less : (v : ℕ) → BelowState BelowFact (row_at known.backs v) (row_at others.backs v) → (i : ℕ) → BelowFact (known_at bound_rules (back_at (rules_at known u) v) i) (known_at bound_rules (back_at (rules_at others u) v) i)
+  back_less v below i =
       subst (λ l. BelowFact (known_at bound_rules l i) (known_at bound_rules (back_at (rules_at others u) v) i)) (sym (back_facts known.backs v))
       (subst (λ l. BelowFact (known_at bound_rules (facts_in (row_at known.backs v)) i) (known_at bound_rules l i)) (sym (back_facts others.backs v))
-      (below_at bound_laws.order bound_laws.rising _ _ i (facts_below (row_at known.backs v) (row_at others.backs v) (surer.backs v))))
+      (below_at bound_laws.order bound_laws.rising _ _ i (facts_below (row_at known.backs v) (row_at others.backs v) below)))
 
   itself : (ks : List Fact) → Pointwise BelowFact ks ks
   itself = pointwise_refl BelowFact bound_laws.order.reflexive
@@ -69,19 +78,19 @@ module _ (known others : ProgramFacts) (surer : AreSurer known others) (u : ℕ)
   first_less : (shared size : ℕ) → Pointwise BelowFact (first_known (rules_at known u) shared size) (first_known (rules_at others u) shared size)
   first_less shared size = set_rises bound_laws.order bound_laws.rising _ _ entry_less 0 (shared_vars shared) _ _ (itself _)
 
-  called_less : (shared : ℕ) (into : Option ℕ) (v : ℕ) (ks : List Fact) → Pointwise BelowFact (after_call (rules_at known u) shared into v ks) (after_call (rules_at others u) shared into v ks)
-  called_less shared None v ks = set_rises bound_laws.order bound_laws.rising _ _ (back_less v) 0 (shared_vars shared) ks ks (itself ks)
-  called_less shared (Some x) v ks = below_set bound_laws.order bound_laws.rising _ _ x _ _ (set_rises bound_laws.order bound_laws.rising _ _ (back_less v) 0 (shared_vars shared) ks ks (itself ks)) (back_less v shared)
+  called_less : (shared : ℕ) (into : Option ℕ) (v : ℕ) (ks : List Fact) → BelowState BelowFact (row_at known.backs v) (row_at others.backs v) → Pointwise BelowFact (after_call (rules_at known u) shared into v ks) (after_call (rules_at others u) shared into v ks)
+  called_less shared None v ks below = set_rises bound_laws.order bound_laws.rising _ _ (back_less v below) 0 (shared_vars shared) ks ks (itself ks)
+  called_less shared (Some x) v ks below = below_set bound_laws.order bound_laws.rising _ _ x _ _ (set_rises bound_laws.order bound_laws.rising _ _ (back_less v below) 0 (shared_vars shared) ks ks (itself ks)) (back_less v below shared)
 
-  after_less : (shared : ℕ) (received : List ℕ) (node : Node) (slot : ℕ) (ks : List Fact) → Pointwise BelowFact (known_after (rules_at known u) shared received node slot ks) (known_after (rules_at others u) shared received node slot ks)
-  after_less shared received (Start next) slot ks = set_rises bound_laws.order bound_laws.rising _ _ (λ i. entry_less (shared + i)) 0 received _ _ (itself _)
-  after_less shared received (Skip next) slot ks = itself ks
-  after_less shared received (Assign x rhs next) slot ks = itself _
-  after_less shared received (Print a next) slot ks = itself ks
-  after_less shared received (Guard test number next) slot ks = itself ks
-  after_less shared received (Call into unit operands next) slot ks = called_less shared into unit ks
-  after_less shared received (Test test taken other) slot ks = itself _
-  after_less shared received (Return a) slot ks = itself ks
+  after_less : (n : ℕ) (received : List ℕ) (node : Node) (slot : ℕ) (ks : List Fact) → slice_get graph.nodes n ≡ Some node → Pointwise BelowFact (known_after (rules_at known u) graph.shared received node slot ks) (known_after (rules_at others u) graph.shared received node slot ks)
+  after_less n received (Start next) slot ks here = set_rises bound_laws.order bound_laws.rising _ _ (λ i. entry_less (graph.shared + i)) 0 received _ _ (itself _)
+  after_less n received (Skip next) slot ks here = itself ks
+  after_less n received (Assign x rhs next) slot ks here = itself _
+  after_less n received (Print a next) slot ks here = itself ks
+  after_less n received (Guard test number next) slot ks here = itself ks
+  after_less n received (Call into unit operands next) slot ks here = called_less graph.shared into unit ks (less.backs n into unit operands next here)
+  after_less n received (Test test taken other) slot ks here = itself _
+  after_less n received (Return a) slot ks here = itself ks
 
   passes_same : (node : Node) (slot : ℕ) (ks : List Fact) → passes (rules_at others u) node slot ks ≡ passes (rules_at known u) node slot ks
   passes_same (Start next) slot ks = refl
@@ -93,21 +102,21 @@ module _ (known others : ProgramFacts) (surer : AreSurer known others) (u : ℕ)
   passes_same (Test test taken other) slot ks = refl
   passes_same (Return a) slot ks = refl
 
-  along_less : (shared : ℕ) (received : List ℕ) (node : Node) (slot : ℕ) (s : NodeState Fact) → BelowState BelowFact (passed_along (rules_at known u) shared received node slot s) (passed_along (rules_at others u) shared received node slot s)
-  along_less shared received node slot (Unreached n) = refl
-  along_less shared received node slot (Knows ks) =
-      subst (λ b. BelowState BelowFact (passed_along (rules_at known u) shared received node slot (Knows ks)) (if b then Knows (known_after (rules_at others u) shared received node slot ks) else Unreached (length ks))) (sym (passes_same node slot ks)) (by (passes (rules_at known u) node slot ks))
+  along_less : (n : ℕ) (received : List ℕ) (node : Node) (slot : ℕ) (s : NodeState Fact) → slice_get graph.nodes n ≡ Some node → BelowState BelowFact (passed_along (rules_at known u) graph.shared received node slot s) (passed_along (rules_at others u) graph.shared received node slot s)
+  along_less n received node slot (Unreached k) here = refl
+  along_less n received node slot (Knows ks) here =
+      subst (λ b. BelowState BelowFact (passed_along (rules_at known u) graph.shared received node slot (Knows ks)) (if b then Knows (known_after (rules_at others u) graph.shared received node slot ks) else Unreached (length ks))) (sym (passes_same node slot ks)) (by (passes (rules_at known u) node slot ks))
     where
-      by : (b : Bool) → BelowState BelowFact (if b then Knows (known_after (rules_at known u) shared received node slot ks) else Unreached (length ks)) (if b then Knows (known_after (rules_at others u) shared received node slot ks) else Unreached (length ks))
-      by true = after_less shared received node slot ks
+      by : (b : Bool) → BelowState BelowFact (if b then Knows (known_after (rules_at known u) graph.shared received node slot ks) else Unreached (length ks)) (if b then Knows (known_after (rules_at others u) graph.shared received node slot ks) else Unreached (length ks))
+      by true = after_less n received node slot ks here
       by false = refl
 
   -- states by the others are states by these facts
-  pub states_less : (graph : GraphShape) (states : ℕ → NodeState Fact)
+  pub states_less : (states : ℕ → NodeState Fact)
       → AreStates BelowFact (passed_along (rules_at others u) graph.shared graph.received) (first_known (rules_at others u) graph.shared (length graph.vars)) graph.nodes states
       → AreStates BelowFact (passed_along (rules_at known u) graph.shared graph.received) (first_known (rules_at known u) graph.shared (length graph.vars)) graph.nodes states
-  states_less graph states are = record {
+  states_less states are = record {
     sizes = λ n lt. are.sizes n lt ∙ length_first (rules_at others u) graph.shared (length graph.vars) ∙ sym (length_first (rules_at known u) graph.shared (length graph.vars));
     start = below_trans bound_laws.order (Knows (first_known (rules_at known u) graph.shared (length graph.vars))) (Knows (first_known (rules_at others u) graph.shared (length graph.vars))) (states 0) (first_less graph.shared (length graph.vars)) are.start;
-    edges = λ n slot s node here edge. below_trans bound_laws.order (passed_along (rules_at known u) graph.shared graph.received node slot (states n)) (passed_along (rules_at others u) graph.shared graph.received node slot (states n)) (states s) (along_less graph.shared graph.received node slot (states n)) (are.edges n slot s node here edge);
+    edges = λ n slot s node here edge. below_trans bound_laws.order (passed_along (rules_at known u) graph.shared graph.received node slot (states n)) (passed_along (rules_at others u) graph.shared graph.received node slot (states n)) (states s) (along_less n graph.received node slot (states n) here) (are.edges n slot s node here edge);
   }

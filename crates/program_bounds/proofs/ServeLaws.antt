@@ -1,28 +1,37 @@
--- One unit that is served: what is known stays surer than all that serves, and where nothing is raised it serves the unit.
-use Rattle.std.proofs.Common.{◌≡◌, ℕ, zero, suc, ◌+◌, ◌<◌, Bool, true, List, [], ◌∷◌, length, map, slice_get, Option, Some, Vec, option_map, refl, sym, ap, ◌∙◌, subst, arith}
-use Rattle.std.proofs.lemmas.List.{length-map, length-append}
+-- One unit that is served: what is known stays surer than all that serves, where nothing is raised it serves the unit, and
+-- units that are not marked then are served.
+use Rattle.std.proofs.Common.{◌≡◌, ◌≢◌, ℕ, zero, suc, ◌+◌, ◌<◌, Bool, true, false, inl, inr, List, [], ◌∷◌, length, map, slice_get, slice_set, Option, Some, Vec, option_map, refl, sym, ap, ◌∙◌, subst, arith}
+use Rattle.std.proofs.lemmas.List.{get_or-set_other, length-append, length-map, length-set}
 use Rattle.std.proofs.lemmas.List.FromFn.{length-map-range_with_len}
 use Rattle.std.proofs.lemmas.Option.{same_Some, slice_get_within}
+use Rattle.std.proofs.lemmas.Bool.{cases_eq}
 use Rattle.fix_solve.specs.Pointwise.{Pointwise}
+use Rattle.node_list.specs.Lists.{list_at}
 use Rattle.mir_base.specs.Frames.{shared_vars}
 use Rattle.mir_base.specs.declared.instructions.Operand.{Operand}
 use Rattle.mir_base.specs.declared.instructions.Rhs.TheVariants.{Plain}
 use Rattle.flow_graph.specs.declared.nodes.Node.{Node}
 use Rattle.flow_graph.specs.declared.nodes.Node.TheVariants.{Start, Skip, Assign, Print, Guard, Call, Test, Return}
 use Rattle.flow_graph.specs.Graphs.{GraphShape}
-use Rattle.flow_graph.specs.ListLaws.{some_at}
+use Rattle.flow_graph.specs.ListLaws.{set_elsewhere, set_here, some_at}
+use Rattle.flow_graph.specs.Numbering.{is_in}
+use Rattle.unit_callers.specs.Calling.{AreUnitCallers}
+use Rattle.unit_callers.specs.Stale.{is_stale}
 use Rattle.bounds.specs.declared.facts.Fact.{Fact}
 use Rattle.bounds.specs.BoundRules.{bound_rules}
 use Rattle.bounds.specs.BoundRuleLaws.{bound_laws}
 use Rattle.bounds.specs.Facts.{BelowFact}
 use Rattle.cond_flow.specs.Handing.{AreHanded, handed, handed_at}
+use Rattle.cond_flow.specs.Rewritten.{IsMadeWithin}
 use Rattle.cond_flow.specs.Rules.{known_at}
 use Rattle.cond_flow.specs.StateLaws.{below_trans}
 use Rattle.cond_flow.specs.States.{BelowState, NodeState, Unreached, Knows, is_reached}
 use Rattle.program_bounds.specs.BoundStacks.{above_known}
 use Rattle.program_bounds.specs.Facts.{AreRows, AreServed, AreSurer, IsServed, ProgramFacts, first_facts, row_at, rules_at}
 use Rattle.program_bounds.specs.Sweeps.{CanGive, CanGiveAt, FitTogether, GivesTo, HasGiven, HaveGiven, IsProgress, Serves, StaySized}
-use Rattle.program_bounds.proofs.LessKnown.{handed_below, states_less}
+use Rattle.program_bounds.specs.Stale.{FreshAreServed, RaisedMarked}
+use Rattle.program_bounds.proofs.Fresh.{AroundStays, least_kept, made_kept, served_kept}
+use Rattle.program_bounds.proofs.LessKnown.{handed_below, less_around, states_less}
 
 -- as many are known as there are globals and operands
 handed_long : (shared : ℕ) (operands : List Operand) (ks : List Fact) → length (handed bound_rules shared operands ks) ≡ shared + length operands
@@ -103,7 +112,7 @@ module _ {A : Type 0} (graphs : List GraphShape) (fit : FitTogether graphs) (u :
       unit = served.units u graph entered_too.0 at entered_too.1
 
       states_below : (n : ℕ) → n < length graph.nodes → BelowState BelowFact (are.states n) (unit.states n)
-      states_below n lt = are.least.least unit.states (states_less old others below u graph unit.states unit.least.are) n lt
+      states_below n lt = are.least.least unit.states (states_less old others graph u (less_around old others graph u below) unit.states unit.least.are) n lt
 
       has_at : (n : ℕ) (node : Node) (facts : List Fact) (s : NodeState Fact) → are.states n ≡ s → slice_get graph.nodes n ≡ Some node → Some facts ≡ handed_at (rules_at old u) graph.shared node s → HasGiven node u facts others
       has_at n node facts (Unreached k) state here e = absurd (cc)
@@ -145,7 +154,7 @@ module _ {A : Type 0} (graphs : List GraphShape) (fit : FitTogether graphs) (u :
       below = new_below;
     }
 
-    -- ---- where nothing is raised, they serve the unit
+    -- ---- what the unit is served by
 
     given_at_node : (n : ℕ) (node : Node) (facts : List Fact) → slice_get graph.nodes n ≡ Some node → handed_at (rules_at old u) graph.shared node (are.states n) ≡ Some facts → HasGiven node u facts new
     given_at_node n node facts here e =
@@ -153,14 +162,19 @@ module _ {A : Type 0} (graphs : List GraphShape) (fit : FitTogether graphs) (u :
         let there = some_at told n (omega (arith, lt, told_long)) in
         gives.have n node facts lt here (there.1 ∙ ap Some (told_is n node there.0 here there.1 ∙ e))
 
-    serves_old : new ≡ old → IsServed old graph u
-    serves_old same = record {
+    -- where as much is known around the unit as before, they serve it
+    serves_new : AroundStays old new graph u → IsServed new graph u
+    serves_new stays = record {
       states = are.states;
-      least = are.least;
-      calls = λ n into v operands next facts here state. subst (λ (k : ProgramFacts). BelowState BelowFact (Knows (handed bound_rules graph.shared operands facts)) (row_at k.entries v)) same
-          (given_at_node n (Call into v operands next) (handed bound_rules graph.shared operands facts) here (ap (handed_at (rules_at old u) graph.shared (Call into v operands next)) state));
-      returns = λ n a facts here state. subst (λ (k : ProgramFacts). BelowState BelowFact (Knows (handed bound_rules graph.shared (a ∷ []) facts)) (row_at k.backs u)) same
-          (given_at_node n (Return a) (handed bound_rules graph.shared (a ∷ []) facts) here (ap (handed_at (rules_at old u) graph.shared (Return a)) state));
+      least = least_kept old new graph u stays are.states are.least;
+      calls = λ n into v operands next facts here state. given_at_node n (Call into v operands next) (handed bound_rules graph.shared operands facts) here (ap (handed_at (rules_at old u) graph.shared (Call into v operands next)) state);
+      returns = λ n a facts here state. given_at_node n (Return a) (handed bound_rules graph.shared (a ∷ []) facts) here (ap (handed_at (rules_at old u) graph.shared (Return a)) state);
+    }
+
+    nothing_raised : new ≡ old → AroundStays old new graph u
+    nothing_raised same = record {
+      entry = ap (λ (k : ProgramFacts). row_at k.entries u) same;
+      backs = λ n into v operands next here. ap (λ (k : ProgramFacts). row_at k.backs v) same;
     }
 
     pub unit_serves : Serves graphs u old new raised
@@ -169,7 +183,51 @@ module _ {A : Type 0} (graphs : List GraphShape) (fit : FitTogether graphs) (u :
       room = gives.room;
       changes = gives.changes;
       stays = gives.stays;
-      served = λ off other facts at' is.
-          let same : graph ≡ other = same_Some graph other (sym at ∙ at') in
-          subst (λ g. IsServed new g u) same (subst (λ k. IsServed k graph u) (sym (gives.stays off)) (serves_old (gives.stays off)));
+      served = λ off other facts at' is. subst (λ g. IsServed new g u) (same_Some graph other (sym at ∙ at')) (serves_new (nothing_raised (gives.stays off)));
     }
+
+    -- ---- units that are not marked are served
+
+    module _ (callers : List (List ℕ)) (calling : AreUnitCallers graphs callers) (stale after : List Bool) (kept : List (Option GraphShape)) (bounded : GraphShape) (fresh : FreshAreServed graphs old stale kept) (is_made : IsMadeWithin BelowFact (rules_at old u) graph bounded)
+        (marked : RaisedMarked (list_at callers u) u old new (slice_set stale u false) after) where
+      -- as much is known around a unit that is not marked
+      around_stays : (v : ℕ) (other : GraphShape) → slice_get graphs v ≡ Some other → is_stale after v ≡ false → AroundStays old new other v
+      around_stays v other at_v off = record {
+        entry = (marked.keeps v off).1;
+        backs = λ n into w operands next here. marked.backs v w off (λ e. subst (λ k. is_in v (list_at callers k) ≡ true) e (calling.calls v other n into w operands next (slice_get_within graphs v other at_v) at_v here));
+      }
+
+      -- so it is around the unit itself
+      self_stays : (v : ℕ) (other : GraphShape) → slice_get graphs v ≡ Some other → is_stale after v ≡ false → v ≡ u → (graph ≡ other) × AroundStays old new graph u
+      self_stays v other at_v off e =
+          let same : graph ≡ other = same_Some graph other (sym at ∙ ap (slice_get graphs) (sym e) ∙ at_v) in
+          (same, subst (λ g. AroundStays old new g u) (sym same) (subst (AroundStays old new other) e (around_stays v other at_v off)))
+
+      -- another unit that is not marked was not stale
+      was_fresh : (v : ℕ) → is_stale after v ≡ false → v ≢ u → is_stale stale v ≡ false
+      was_fresh v off ne = sym (get_or-set_other stale u v false true ne) ∙ (marked.keeps v off).0
+
+      fresh_served : (v : ℕ) (other : GraphShape) (facts : List Fact) → slice_get graphs v ≡ Some other → row_at new.entries v ≡ Knows facts → is_stale after v ≡ false → IsServed new other v
+      fresh_served v other facts at_v is off = elim (cases_eq v u) [
+        | inl e ↦ let self = self_stays v other at_v off e in subst (IsServed new other) (sym e) (subst (λ g. IsServed new g u) self.0 (serves_new self.1))
+        | inr ne ↦ served_kept old new other v (around_stays v other at_v off) gives.rise (fresh.served v other facts at_v (sym (marked.keeps v off).1 ∙ is) (was_fresh v off ne))
+      ]
+
+      fresh_made : (v : ℕ) (other made : GraphShape) → slice_get graphs v ≡ Some other → is_stale after v ≡ false → slice_get (slice_set kept u (Some bounded)) v ≡ Some (Some made) → IsMadeWithin BelowFact (rules_at new v) other made
+      fresh_made v other made at_v off there = elim (cases_eq v u) [
+        | inl e ↦
+            let self = self_stays v other at_v off e in
+            let lt : u < length kept = omega (arith, fresh.made_long, slice_get_within graphs u graph at) in
+            let both : Some (Some bounded) ≡ Some (Some made) = sym (set_here kept u (Some bounded) lt) ∙ ap (slice_get (slice_set kept u (Some bounded))) (sym e) ∙ there in
+            let is : bounded ≡ made = cc in
+            subst (λ k. IsMadeWithin BelowFact (rules_at new k) other made) (sym e) (subst (λ g. IsMadeWithin BelowFact (rules_at new u) g made) self.0 (subst (IsMadeWithin BelowFact (rules_at new u) graph) is (made_kept old new graph u self.1 bounded is_made)))
+        | inr ne ↦ made_kept old new other v (around_stays v other at_v off) made (fresh.is_made v other made at_v (was_fresh v off ne) (sym (set_elsewhere kept u v (Some bounded) ne) ∙ there))
+      ]
+
+      pub unit_fresh : FreshAreServed graphs new after (slice_set kept u (Some bounded))
+      unit_fresh = record {
+        long = marked.long ∙ length-set stale u false ∙ fresh.long;
+        made_long = length-set kept u (Some bounded) ∙ fresh.made_long;
+        served = fresh_served;
+        is_made = fresh_made;
+      }

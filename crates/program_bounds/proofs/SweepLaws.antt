@@ -1,11 +1,15 @@
 -- Sweeps over units: what is known is raised until it serves all units that are entered.
-use Rattle.std.proofs.Common.{◌≡◌, ◌⊎◌, ℕ, ◌<◌, Bool, true, false, ◌||◌, inl, inr, List, slice_get, refl, sym, ap, ◌∙◌, subst, arith, true≢false}
+use Rattle.std.proofs.Common.{◌≡◌, ◌⊎◌, ℕ, ◌<◌, Bool, true, false, ◌||◌, inl, inr, List, length, replicate, slice_get, Option, refl, sym, ap, ◌∙◌, subst, arith, true≢false}
 use Rattle.std.proofs.lemmas.Bool.{or_parts}
+use Rattle.std.proofs.lemmas.List.{length-replicate}
 use Rattle.std.proofs.lemmas.Option.{slice_get_within}
+use Rattle.unit_callers.specs.Stale.{is_stale}
+use Rattle.unit_callers.specs.StaleLaws.{all_marked}
 use Rattle.bounds.specs.declared.facts.Fact.{Fact}
 use Rattle.flow_graph.specs.Graphs.{GraphShape}
 use Rattle.cond_flow.specs.States.{Knows}
 use Rattle.program_bounds.specs.Facts.{AreLeastFacts, IsServed, ProgramFacts, row_at}
+use Rattle.program_bounds.specs.Stale.{FreshAreServed}
 use Rattle.program_bounds.specs.Sweeps.{IsProgress, Serves, Sweeps, SweepsTo, facts_room}
 
 -- a unit that is not entered is served
@@ -17,6 +21,28 @@ not_entered graphs u known progress never = record {
   stays = λ off. refl;
   served = λ off graph facts at is. absurd (never facts is);
 }
+
+-- nor has one to be served that is not stale
+pub served_already : (graphs : List GraphShape) (u : ℕ) (known : ProgramFacts) (stale : List Bool) (made : List (Option GraphShape)) → IsProgress graphs known → FreshAreServed graphs known stale made → is_stale stale u ≡ false → Serves graphs u known known false
+served_already graphs u known stale made progress fresh off = record {
+  progress = progress;
+  room = omega arith;
+  changes = λ on. absurd (true≢false (sym on));
+  stays = λ none. refl;
+  served = λ none graph facts at is. fresh.served u graph facts at is off;
+}
+
+-- at first all are
+pub all_stale : (graphs : List GraphShape) (known : ProgramFacts) (stale : List Bool) (made : List (Option GraphShape)) → stale ≡ replicate (length graphs) true → length made ≡ length graphs → FreshAreServed graphs known stale made
+all_stale graphs known stale made is long = record {
+  long = ap (λ (l : List Bool). length l) is ∙ length-replicate {A = Bool} (length graphs) true;
+  made_long = long;
+  served = λ u graph facts at entered off. absurd (marked u off);
+  is_made = λ u graph bounded at off there. absurd (marked u off);
+}
+  where
+    marked : (u : ℕ) → is_stale stale u ≡ false → ⊥
+    marked u off = true≢false (sym (all_marked (length graphs) u) ∙ ap (λ l. is_stale l u) (sym is) ∙ off)
 
 -- no unit yet
 pub sweeps_none : (graphs : List GraphShape) (Done : ℕ → Type 0) (known : ProgramFacts) → ((u : ℕ) → Done u → ⊥) → IsProgress graphs known → SweepsTo graphs Done known known false

@@ -12,6 +12,7 @@ mod giving;
 mod graphs;
 mod known;
 mod programs;
+mod serving;
 mod starting;
 
 pub use programs::bounded_program;

@@ -2,7 +2,7 @@
 ghost use Rattle.std.specs.Prelude.{◌<◌, ◌≡◌, IfOk, length};
 ghost use Rattle.program_pass.specs.PassPrograms.{IsOnly, KeepsRuns};
 ghost use Rattle.program_bounds.specs.Programs.{AreFronts, BoundedUnit, BoundedUnits, IsBoundedProgram};
-ghost use Rattle.program_bounds.specs.Tables.{facts_of};
+ghost use Rattle.program_bounds.specs.Tables.{AreFresh, facts_of};
 
 use crate::graphs::graphs_of;
 use crate::known::{Tables, around, least_facts};
@@ -40,6 +40,7 @@ fn bounded_units(
 ) -> Result<Vec<MirUnit>, Memory>
     requires fronts { AreFronts program.now.units graphs.now.items }
     requires rows { length (facts_of tables.now).entries ≡ length program.now.units }
+    requires fresh { AreFresh graphs.now.items tables.now }
     ensures { IfOk result (λ units.
         BoundedUnits (facts_of tables.now) program.now.units units.items) }
 {
@@ -50,8 +51,38 @@ fn bounded_units(
     Ok(units)
 }
 
-/// The unit of this number.
+/// The unit of this number: by the graph that was made of it when it was served last, if it is not stale.
 fn bounded_unit(
+    alloc: Global,
+    program: &Program,
+    graphs: &Vec<Graph>,
+    tables: &Tables,
+    number: usize,
+) -> Result<MirUnit, Memory>
+    requires fronts { AreFronts program.now.units graphs.now.items }
+    requires rows { length (facts_of tables.now).entries ≡ length program.now.units }
+    requires fresh { AreFresh graphs.now.items tables.now }
+    requires number { number < length program.now.units }
+    ensures { IfOk result (BoundedUnit (facts_of tables.now) program.now.units number) }
+{
+    if tables.stale[number] {
+        let target = made_unit(alloc, program, graphs, tables, number)?;
+        return Ok(target);
+    }
+    match &tables.made[number] {
+        Some(bounded) => {
+            let target = laid_out(alloc, bounded)?;
+            Ok(target)
+        }
+        None => {
+            let target = made_unit(alloc, program, graphs, tables, number)?;
+            Ok(target)
+        }
+    }
+}
+
+/// The same, made anew.
+fn made_unit(
     alloc: Global,
     program: &Program,
     graphs: &Vec<Graph>,

@@ -3,7 +3,7 @@ ghost use Rattle.std.specs.Prelude.{◌≡◌, ◌<◌, ◌+◌, length, replica
 ghost use Rattle.bounds.specs.declared.facts.Fact.TheVariants.{Never};
 ghost use Rattle.program_bounds.specs.Facts.{first_facts};
 ghost use Rattle.program_bounds.specs.Sweeps.{AreFirstEntries, AreNeverBacks, AreNeverEntries, FitTogether, IsProgress};
-ghost use Rattle.program_bounds.specs.Tables.{facts_of};
+ghost use Rattle.program_bounds.specs.Tables.{AreFresh, facts_of};
 
 use crate::entries::Entry;
 use crate::known::Tables;
@@ -13,14 +13,34 @@ use flow_graph::Graph;
 use mir_base::Memory;
 use std::alloc::Global;
 
-/// At first the first unit alone is entered, with globals that are 0 and any arguments, and no unit has returned.
+/// At first the first unit alone is entered, with globals that are 0 and any arguments, and no unit has returned. Nothing
+/// is made of any yet, and all are stale.
 pub(crate) fn first_tables(alloc: Global, graphs: &Vec<Graph>) -> Result<Tables, Memory>
     requires { FitTogether graphs.now.items }
-    ensures { IfOk result (λ tables. IsProgress graphs.now.items (facts_of tables)) }
+    ensures progress { IfOk result (λ tables. IsProgress graphs.now.items (facts_of tables)) }
+    ensures fresh { IfOk result (AreFresh graphs.now.items) }
 {
     let entries = first_entries(alloc, graphs)?;
     let backs = never_backs(alloc, graphs)?;
-    Ok(Tables { entries, backs })
+    let stale = vec![in alloc; true; graphs.len()]?;
+    let made = none_made(alloc, graphs)?;
+    Ok(Tables {
+        entries,
+        backs,
+        stale,
+        made,
+    })
+}
+
+/// No graph yet of each unit.
+fn none_made(alloc: Global, graphs: &Vec<Graph>) -> Result<Vec<Option<Graph>>, Memory>
+    ensures { IfOk result (λ made. length made.items ≡ length graphs.now.items) }
+{
+    let mut made = Vec::new(alloc);
+    for _ in 0..graphs.len() {
+        made.push(None)?;
+    }
+    Ok(made)
 }
 
 /// Where units are entered.

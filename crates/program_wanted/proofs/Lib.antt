@@ -1,6 +1,5 @@
 pub mod Rooms
 pub mod Raises
-pub mod Called
 pub mod Marks
 pub mod Fresh
 pub mod Prepares

@@ -21,8 +21,10 @@ use Rattle.program_wanted.specs.Demands.{AreLeastDemands, AreNumberRows, AreServ
 use Rattle.program_wanted.specs.DemandLaws.{back_most, demands_more, fewer_back, least_fewer, received_low, wanted_less}
 use Rattle.program_wanted.specs.Sweeps.{CallsFitRows, FitTogether, HaveAsked, IsProgress, RaisesTo, Serves, StayLong, Sweeps, SweepsTo, demands_room, entry_at, rows_room}
 use Rattle.flow_graph.specs.Numbering.{is_in}
-use Rattle.program_wanted.specs.Calling.{AreUnitCallers}
-use Rattle.program_wanted.specs.Stale.{CallersMarked, FreshAreServed, RaisedMarked, is_stale}
+use Rattle.unit_callers.specs.Calling.{AreUnitCallers}
+use Rattle.unit_callers.specs.Stale.{CallersMarked, is_stale}
+use Rattle.unit_callers.specs.StaleLaws.{all_marked}
+use Rattle.program_wanted.specs.Stale.{FreshAreServed, RaisedMarked}
 use Rattle.program_wanted.proofs.Fresh.{CalleesStay, served_kept, wanted_kept}
 use Rattle.program_wanted.proofs.Rooms.{Raised, row_has, row_least, row_raised}
 
@@ -336,17 +338,11 @@ served_already graphs u demands stale progress fresh off = record {
   served = λ none graph at. fresh.served u graph at off;
 }
 
--- at first all are
-marked_at : (n u : ℕ) → is_stale (replicate n true) u ≡ true
-marked_at zero u = refl
-marked_at (suc n) zero = refl
-marked_at (suc n) (suc u) = marked_at n u
-
--- so none has to be served
+-- at first all are, so none has to be served
 pub all_stale : (graphs : List GraphShape) (demands : Demands) (stale : List Bool) → stale ≡ replicate (length graphs) true → FreshAreServed graphs demands stale
 all_stale graphs demands stale is = record {
   long = ap (λ (l : List Bool). length l) is ∙ length-replicate {A = Bool} (length graphs) true;
-  served = λ u graph at off. absurd (true≢false (sym (marked_at (length graphs) u) ∙ ap (λ l. is_stale l u) (sym is) ∙ off));
+  served = λ u graph at off. absurd (true≢false (sym (all_marked (length graphs) u) ∙ ap (λ l. is_stale l u) (sym is) ∙ off));
 }
 
 -- ---- sweeps

@@ -1,6 +1,5 @@
 pub mod Demands
 pub mod Sweeps
-pub mod Calling
 pub mod Stale
 pub mod Preparing
 pub mod DemandStacks

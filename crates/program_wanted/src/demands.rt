@@ -1,19 +1,20 @@
 // The least numbers of bits that the units of a program ask of one another.
 ghost use Rattle.std.specs.Prelude.{◌≡◌, ◌<◌, length, IfOk, OnOk};
-ghost use Rattle.program_wanted.specs.Calling.{AreUnitCallers};
+ghost use Rattle.unit_callers.specs.Calling.{AreUnitCallers};
 ghost use Rattle.program_wanted.specs.Demands.{AreLeastDemands, IsAround};
-ghost use Rattle.program_wanted.specs.Preparing.{ArePrepared};
+ghost use Rattle.program_wanted.specs.Preparing.{AreAskLists, ArePrepared};
 ghost use Rattle.program_wanted.specs.Stale.{FreshAreServed};
 ghost use Rattle.program_wanted.specs.Sweeps.{FitTogether, IsProgress, Sweeps};
 ghost use Rattle.program_wanted.specs.Tables.{demands_of};
 
-use crate::calling::{Callers, callers_of};
 use crate::preparing::all_prepared;
+use crate::raising::{UnitAsks, nothing_asked};
 use crate::serving::serve_stale;
 use crate::starting::first_demands;
 use flow_graph::Graph;
 use mir_base::Memory;
 use std::alloc::Global;
+use unit_callers::{Callers, callers_of};
 use wanted_bits::{Around, Prepared, Widths};
 
 /// What is asked for around each unit of a program. Contracts see it as `demands_of`.
@@ -64,9 +65,18 @@ fn served(
 {
     let mut tables = first;
     let prepared = all_prepared(alloc, graphs)?;
+    let mut asks = nothing_asked(alloc, graphs)?;
     let mut stale = vec![in alloc; true; graphs.len()]?;
     loop {
-        let raised = sweep(alloc, graphs, &prepared, callers, &mut tables, &mut stale)?;
+        let raised = sweep(
+            alloc,
+            graphs,
+            &prepared,
+            callers,
+            &mut tables,
+            &mut stale,
+            &mut asks,
+        )?;
         if !raised {
             return Ok(tables);
         }
@@ -81,19 +91,22 @@ fn sweep(
     callers: &Vec<Callers>,
     tables: &mut Tables,
     stale: &mut Vec<bool>,
+    asks: &mut Vec<UnitAsks>,
 ) -> Result<bool, Memory>
     requires fit { FitTogether graphs.now.items }
     requires prepared { ArePrepared graphs.now.items prepared.now.items }
     requires callers { AreUnitCallers graphs.now.items callers.now.items }
     requires progress { IsProgress graphs.now.items (demands_of tables.old) }
     requires fresh { FreshAreServed graphs.now.items (demands_of tables.old) stale.old.items }
+    requires asks { AreAskLists graphs.now.items asks.old.items }
     ensures swept { IfOk result (λ raised.
         Sweeps graphs.now.items (demands_of tables.old) (demands_of tables.new) raised) }
     ensures fresh { OnOk result
         (FreshAreServed graphs.now.items (demands_of tables.new) stale.new.items) }
+    ensures asks { OnOk result (AreAskLists graphs.now.items asks.new.items) }
 {
-    let down = sweep_down(alloc, graphs, prepared, callers, tables, stale)?;
-    let up = sweep_up(alloc, graphs, prepared, callers, tables, stale)?;
+    let down = sweep_down(alloc, graphs, prepared, callers, tables, stale, asks)?;
+    let up = sweep_up(alloc, graphs, prepared, callers, tables, stale, asks)?;
     Ok(down | up)
 }
 
@@ -105,20 +118,23 @@ fn sweep_down(
     callers: &Vec<Callers>,
     tables: &mut Tables,
     stale: &mut Vec<bool>,
+    asks: &mut Vec<UnitAsks>,
 ) -> Result<bool, Memory>
     requires fit { FitTogether graphs.now.items }
     requires prepared { ArePrepared graphs.now.items prepared.now.items }
     requires callers { AreUnitCallers graphs.now.items callers.now.items }
     requires progress { IsProgress graphs.now.items (demands_of tables.old) }
     requires fresh { FreshAreServed graphs.now.items (demands_of tables.old) stale.old.items }
+    requires asks { AreAskLists graphs.now.items asks.old.items }
     ensures swept { IfOk result (λ raised.
         Sweeps graphs.now.items (demands_of tables.old) (demands_of tables.new) raised) }
     ensures fresh { OnOk result
         (FreshAreServed graphs.now.items (demands_of tables.new) stale.new.items) }
+    ensures asks { OnOk result (AreAskLists graphs.now.items asks.new.items) }
 {
     let mut raised = false;
     for unit in 0..graphs.len() {
-        raised |= serve_stale(alloc, graphs, prepared, callers, tables, stale, unit)?;
+        raised |= serve_stale(alloc, graphs, prepared, callers, tables, stale, asks, unit)?;
     }
     Ok(raised)
 }
@@ -131,21 +147,24 @@ fn sweep_up(
     callers: &Vec<Callers>,
     tables: &mut Tables,
     stale: &mut Vec<bool>,
+    asks: &mut Vec<UnitAsks>,
 ) -> Result<bool, Memory>
     requires fit { FitTogether graphs.now.items }
     requires prepared { ArePrepared graphs.now.items prepared.now.items }
     requires callers { AreUnitCallers graphs.now.items callers.now.items }
     requires progress { IsProgress graphs.now.items (demands_of tables.old) }
     requires fresh { FreshAreServed graphs.now.items (demands_of tables.old) stale.old.items }
+    requires asks { AreAskLists graphs.now.items asks.old.items }
     ensures swept { IfOk result (λ raised.
         Sweeps graphs.now.items (demands_of tables.old) (demands_of tables.new) raised) }
     ensures fresh { OnOk result
         (FreshAreServed graphs.now.items (demands_of tables.new) stale.new.items) }
+    ensures asks { OnOk result (AreAskLists graphs.now.items asks.new.items) }
 {
     let mut raised = false;
     for count in 0..graphs.len() {
         let unit = graphs.len() - 1 - count;
-        raised |= serve_stale(alloc, graphs, prepared, callers, tables, stale, unit)?;
+        raised |= serve_stale(alloc, graphs, prepared, callers, tables, stale, asks, unit)?;
     }
     Ok(raised)
 }

@@ -8,7 +8,6 @@
 //! that keeps what is wanted takes an assignment that stays.
 #![tactic(auto)]
 
-mod calling;
 mod demands;
 mod graphs;
 mod preparing;

@@ -1,7 +1,8 @@
 // What a unit asks for, and rows that are raised to it.
-ghost use Rattle.std.specs.Prelude.{◌≡◌, ◌≤◌, ◌<◌, ◌↔◌, false, length, map, slice_set, IfOk};
+ghost use Rattle.std.specs.Prelude.{◌≡◌, ◌≤◌, ◌<◌, ◌↔◌, false, length, map, slice_set, IfOk, OnOk};
 ghost use Rattle.node_list.specs.Lists.{list_at};
 ghost use Rattle.wanted_bits.specs.BitsOrder.{joined_bits};
+ghost use Rattle.program_wanted.specs.Preparing.{AreAskLists};
 ghost use Rattle.program_wanted.specs.Stale.{RaisedMarked};
 ghost use Rattle.mir_base.specs.Frames.{shared_vars};
 ghost use Rattle.program_wanted.specs.Sweeps.{AreUnitAsks, CallsFitRows, FitsRow, RaisesBacks, entry_at, with_call};
@@ -11,11 +12,11 @@ ghost use Rattle.wanted_bits.specs.Asks.{AreAsks};
 ghost use Rattle.wanted_bits.specs.Preparing.{IsPrepared};
 
 use crate::demands::{Tables, around};
-use crate::serving::mark;
 use flow_graph::{Graph, Node};
 use mir_base::Memory;
 use std::alloc::Global;
-use wanted_bits::{Prepared, Widths, asks_prepared};
+use unit_callers::mark;
+use wanted_bits::{Prepared, Widths, ask_again, no_asks};
 
 /// What a unit asks for.
 #[derive(Drop)]
@@ -28,28 +29,54 @@ pub(crate) struct UnitAsks {
     pub(crate) calls: Vec<Option<Widths>>,
 }
 
-/// What a unit asks for, where so many bits are asked for around it.
-pub(crate) fn asks_of(
-    alloc: Global,
-    graph: &Graph,
-    prepared: &Prepared,
-    tables: &Tables,
-    unit: usize,
-) -> Result<UnitAsks, Memory>
-    requires prepared { IsPrepared graph.now prepared.now }
-    requires there { unit < length tables.now.backs.items }
-    ensures { IfOk result (λ asks.
-        AreUnitAsks (asked_at (demands_of tables.now) graph.now.shared unit) graph.now asks) }
+/// For each unit nothing, before it was served.
+pub(crate) fn nothing_asked(alloc: Global, graphs: &Vec<Graph>) -> Result<Vec<UnitAsks>, Memory>
+    ensures { IfOk result (λ asks. AreAskLists graphs.now.items asks.items) }
 {
-    let around = around(tables, unit);
-    let calls = asks_prepared(alloc, graph, &around, prepared)?;
-    let globals = entry_globals(alloc, calls.as_slice(), graph.shared())?;
-    let arguments = entry_arguments(alloc, calls.as_slice(), graph.received())?;
+    let mut all = Vec::with_capacity(alloc, graphs.len())?;
+    for unit in 0..graphs.len() {
+        let one = unit_asks(alloc, &graphs[unit])?;
+        all.push(one)?;
+    }
+    Ok(all)
+}
+
+/// Nothing, with a place for what each node asks for.
+fn unit_asks(alloc: Global, graph: &Graph) -> Result<UnitAsks, Memory>
+    ensures { IfOk result (λ asks. length asks.calls.items ≡ length graph.now.nodes) }
+{
+    let globals = Widths::zeros(alloc, 0)?;
+    let arguments = Widths::zeros(alloc, 0)?;
+    let calls = no_asks(alloc, graph)?;
     Ok(UnitAsks {
         globals,
         arguments,
         calls,
     })
+}
+
+/// Leaves what a unit asks for, where so many bits are asked for around it, in the place of what it asked for before.
+pub(crate) fn ask_unit(
+    alloc: Global,
+    graph: &Graph,
+    prepared: &Prepared,
+    tables: &Tables,
+    unit: usize,
+    asks: &mut UnitAsks,
+) -> Result<(), Memory>
+    requires prepared { IsPrepared graph.now prepared.now }
+    requires there { unit < length tables.now.backs.items }
+    requires long { length asks.old.calls.items ≡ length graph.now.nodes }
+    ensures { OnOk result
+        (AreUnitAsks (asked_at (demands_of tables.now) graph.now.shared unit) graph.now asks.new) }
+{
+    let around = around(tables, unit);
+    ask_again(alloc, graph, &around, prepared, &mut asks.calls)?;
+    let globals = entry_globals(alloc, asks.calls.as_slice(), graph.shared())?;
+    let arguments = entry_arguments(alloc, asks.calls.as_slice(), graph.received())?;
+    asks.globals = globals;
+    asks.arguments = arguments;
+    Ok(())
 }
 
 /// What is asked for of each of so many globals where the unit is entered.
@@ -102,9 +129,10 @@ pub(crate) fn raise_backs(
     ensures raises { RaisesBacks graph.now asks.now backs.old.items backs.new.items result }
     ensures marked { RaisedMarked backs.old.items backs.new.items stale.old.items stale.new.items }
 {
+    let nodes = graph.nodes();
     let mut raised = false;
-    for n in 0..graph.len() {
-        raised |= raise_call(graph.node(n), &asks[n], backs, stale);
+    for n in 0..nodes.len() {
+        raised |= raise_call(&nodes[n], &asks[n], backs, stale);
     }
     raised
 }
@@ -121,12 +149,12 @@ fn raise_call(
     ensures unchanged { (result ≡ false) ↔ (backs.new.items ≡ backs.old.items) }
     ensures marked { RaisedMarked backs.old.items backs.new.items stale.old.items stale.new.items }
 {
-    match node {
-        Node::Call(_, unit, _, _) => match ask {
-            Some(widths) => raise_row(*unit, widths, backs, stale),
-            None => false,
+    match ask {
+        Some(widths) => match node {
+            Node::Call(_, unit, _, _) => raise_row(*unit, widths, backs, stale),
+            _ => false,
         },
-        _ => false,
+        None => false,
     }
 }
 

@@ -1,17 +1,17 @@
 // One unit that is served: what is asked for around units is raised to what it asks for.
-ghost use Rattle.std.specs.Prelude.{◌≡◌, ◌<◌, true, length, slice_set, IfOk, OnOk};
-ghost use Rattle.program_wanted.specs.Calling.{AreUnitCallers};
-ghost use Rattle.program_wanted.specs.Preparing.{ArePrepared};
-ghost use Rattle.program_wanted.specs.Stale.{AllStale, CallersMarked, FreshAreServed};
+ghost use Rattle.std.specs.Prelude.{◌<◌, length, IfOk, OnOk};
+ghost use Rattle.unit_callers.specs.Calling.{AreUnitCallers};
+ghost use Rattle.program_wanted.specs.Preparing.{AreAskLists, ArePrepared, FitsUnit};
+ghost use Rattle.program_wanted.specs.Stale.{FreshAreServed};
 ghost use Rattle.program_wanted.specs.Sweeps.{FitTogether, IsProgress, Serves};
 ghost use Rattle.program_wanted.specs.Tables.{demands_of};
 
-use crate::calling::Callers;
 use crate::demands::Tables;
-use crate::raising::{asks_of, raise_backs};
+use crate::raising::{UnitAsks, ask_unit, raise_backs};
 use flow_graph::Graph;
 use mir_base::Memory;
 use std::alloc::Global;
+use unit_callers::{Callers, mark_if};
 use wanted_bits::Prepared;
 
 /// Raises the numbers to what a unit wants by them, if it is stale, and answers whether one was less. Units that may
@@ -23,6 +23,7 @@ pub(crate) fn serve_stale(
     callers: &Vec<Callers>,
     tables: &mut Tables,
     stale: &mut Vec<bool>,
+    asks: &mut Vec<UnitAsks>,
     unit: usize,
 ) -> Result<bool, Memory>
     requires fit { FitTogether graphs.now.items }
@@ -30,14 +31,19 @@ pub(crate) fn serve_stale(
     requires callers { AreUnitCallers graphs.now.items callers.now.items }
     requires progress { IsProgress graphs.now.items (demands_of tables.old) }
     requires fresh { FreshAreServed graphs.now.items (demands_of tables.old) stale.old.items }
+    requires asks { AreAskLists graphs.now.items asks.old.items }
     requires there { unit < length graphs.now.items }
     ensures serves { IfOk result (λ raised.
         Serves graphs.now.items unit (demands_of tables.old) (demands_of tables.new) raised) }
     ensures fresh { OnOk result
         (FreshAreServed graphs.now.items (demands_of tables.new) stale.new.items) }
+    ensures asks { OnOk result (AreAskLists graphs.now.items asks.new.items) }
 {
     if stale[unit] {
-        let raised = serve(alloc, graphs, prepared, callers, tables, stale, unit)?;
+        let unit_asks = &mut asks[unit];
+        let raised = serve(
+            alloc, graphs, prepared, callers, tables, stale, unit_asks, unit,
+        )?;
         Ok(raised)
     } else {
         Ok(false)
@@ -52,6 +58,7 @@ fn serve(
     callers: &Vec<Callers>,
     tables: &mut Tables,
     stale: &mut Vec<bool>,
+    asks: &mut UnitAsks,
     unit: usize,
 ) -> Result<bool, Memory>
     requires fit { FitTogether graphs.now.items }
@@ -59,48 +66,23 @@ fn serve(
     requires callers { AreUnitCallers graphs.now.items callers.now.items }
     requires progress { IsProgress graphs.now.items (demands_of tables.old) }
     requires fresh { FreshAreServed graphs.now.items (demands_of tables.old) stale.old.items }
+    requires asks { FitsUnit graphs.now.items unit asks.old }
     requires there { unit < length graphs.now.items }
     ensures serves { IfOk result (λ raised.
         Serves graphs.now.items unit (demands_of tables.old) (demands_of tables.new) raised) }
     ensures fresh { OnOk result
         (FreshAreServed graphs.now.items (demands_of tables.new) stale.new.items) }
+    ensures asks { OnOk result (FitsUnit graphs.now.items unit asks.new) }
 {
     let graph = &graphs[unit];
     let _nodes = graph.nodes();
     let _shared = graph.shared();
     let ready = &prepared[unit];
-    let asks = asks_of(alloc, graph, ready, tables, unit)?;
+    ask_unit(alloc, graph, ready, tables, unit, asks)?;
     stale[unit] = false;
     let entered = tables.globals[unit].raise_all(&asks.globals);
     let given = tables.arguments[unit].raise_all(&asks.arguments);
     mark_if(entered | given, callers[unit].units(), stale);
     let back = raise_backs(graph, asks.calls.as_slice(), &mut tables.backs, stale);
     Ok(entered | given | back)
-}
-
-/// Marks these units as stale, where so much is told.
-fn mark_if(raised: bool, units: &[usize], stale: &mut Vec<bool>)
-    ensures { CallersMarked raised units.now stale.old.items stale.new.items }
-{
-    if raised {
-        mark_all(units, stale);
-    }
-}
-
-/// Marks these units as stale.
-fn mark_all(units: &[usize], stale: &mut Vec<bool>)
-    ensures { AllStale units.now stale.old.items stale.new.items }
-{
-    for unit in units {
-        mark(*unit, stale);
-    }
-}
-
-/// Marks a unit as stale, where there is one.
-pub(crate) fn mark(unit: usize, stale: &mut Vec<bool>)
-    ensures { stale.new.items ≡ slice_set stale.old.items unit true }
-{
-    if unit < stale.len() {
-        stale[unit] = true;
-    }
 }

@@ -1,5 +1,5 @@
 -- The least solution of the flow over blocks, walked back through each block, has the least wanted bits before each node.
-use Rattle.std.proofs.Common.{◌≡◌, ◌⊎◌, ℕ, zero, suc, ◌<◌, ◌≤◌, min, max, Bool, true, false, if◌then◌else◌, ◌||◌, nat_eq, nat_lt, inl, inr, List, [], ◌∷◌, drop, flat_map, length, map, replicate, slice_get, slice_index_or, Option, Some, None, refl, sym, ap, ◌∙◌, subst, arith, le_refl, true≢false}
+use Rattle.std.proofs.Common.{◌≡◌, ◌⊎◌, ℕ, zero, suc, ◌<◌, ◌≤◌, min, max, Bool, true, false, if◌then◌else◌, inl, inr, List, [], ◌∷◌, drop, length, map, replicate, slice_get, slice_index_or, Option, Some, None, refl, sym, ap, ◌∙◌, subst, arith}
 use Rattle.std.specs.List.{range_with_len}
 use Rattle.std.proofs.lemmas.Bool.{cases_lt}
 use Rattle.std.proofs.lemmas.Grind.{get_or_default_zero}
@@ -9,18 +9,14 @@ use Rattle.std.proofs.lemmas.Option.{get_or_from_slice_get, slice_get_within, sl
 use Rattle.fix_solve.specs.Net.{Solves, IsLeastSolution}
 use Rattle.fix_solve.specs.Pointwise.{pointwise_length}
 use Rattle.node_list.specs.Lists.{list_at}
-use Rattle.mir_base.specs.declared.instructions.Operand.{Operand}
 use Rattle.mir_base.specs.declared.instructions.Rhs.{Rhs}
-use Rattle.mir_base.specs.Frames.{shared_vars}
-use Rattle.mir_base.specs.Shapes.{operand_vars}
 use Rattle.flow_graph.specs.declared.edges.Edge.{Edge}
 use Rattle.flow_graph.specs.declared.nodes.Node.{Node}
 use Rattle.flow_graph.specs.declared.nodes.Node.TheVariants.{Start, Skip, Assign, Print, Guard, Call, Test, Return}
 use Rattle.flow_graph.specs.Blocks.{IsBlocks, IsChain, IsGlued}
 use Rattle.flow_graph.specs.BlockLaws.{chain_inner, chain_within, edge_within, one_block, one_place, only_from, only_to}
 use Rattle.flow_graph.specs.FlowEdges.{edge_at}
-use Rattle.flow_graph.specs.Graphs.{AllWithin, CanMake, GraphShape, IsEdge, assigns, node_reads, succs_at, succs_of}
-use Rattle.flow_graph.specs.Numbering.{is_in}
+use Rattle.flow_graph.specs.Graphs.{AllWithin, CanMake, GraphShape, IsEdge, assigns, succs_at, succs_of}
 use Rattle.flow_graph.specs.Paths.{Begins, Ends, HasEdge}
 use Rattle.path_laws.specs.Between.{AreBetween}
 use Rattle.wanted_bits.specs.declared.picking.Shift.{Shift}

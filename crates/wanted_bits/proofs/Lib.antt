@@ -11,3 +11,4 @@ pub mod Noted
 pub mod Shapes
 pub mod PathsStay
 pub mod Listing
+pub mod Staying

@@ -1,5 +1,5 @@
 -- Where all bits are asked for around its unit, the narrowed graph goes in lockstep with the graph.
-use Rattle.std.proofs.Common.{◌≡◌, ℕ, zero, suc, ◌<◌, ◌≤◌, List, [], ◌∷◌, length, slice_index_or, ℤ, pos, Option, Some, None, refl, sym, ap, ◌∙◌, subst, arith, le_refl, FitsSigned, w64}
+use Rattle.std.proofs.Common.{◌≡◌, ℕ, zero, suc, ◌<◌, List, [], ◌∷◌, length, slice_index_or, ℤ, pos, refl, sym, ap, ◌∙◌, subst, arith}
 use Rattle.std.proofs.lemmas.List.{ext_get_or}
 use Rattle.std.proofs.lemmas.List.Elements.{All-head, All-tail}
 use Rattle.mir_base.specs.Frames.{Answer, CallEntry, Frame, Transition, Continues, Prints, Calls, Returns, Traps, resumed, first_frame}
@@ -15,7 +15,7 @@ use Rattle.flow_graph.specs.Machines.{graph_code, graph_machine, machine_of}
 use Rattle.wanted_bits.specs.Agreement.{AgreeBelow}
 use Rattle.wanted_bits.specs.AgreementLaws.{agree_equal}
 use Rattle.wanted_bits.specs.Narrowed.{AreNarrowed}
-use Rattle.wanted_bits.specs.NarrowedSteps.{AlikeBy, AnswersAgree, AnswersServe, Beside, EntriesAgree, entered_beside, narrowed_steps}
+use Rattle.wanted_bits.specs.NarrowedSteps.{AlikeBy, AnswersAgree, Beside, EntriesAgree, entered_beside, narrowed_steps}
 use Rattle.wanted_bits.specs.RunsAgree.{AgreeThere, frame_after, frame_past}
 use Rattle.wanted_bits.specs.Wanted.{all_asked}
 

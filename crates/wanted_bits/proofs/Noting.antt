@@ -2,7 +2,7 @@
 use Rattle.std.proofs.Common.{◌≡◌, ◌≢◌, ◌⊎◌, ℕ, suc, ◌+◌, ◌-◌, ◌<◌, ◌≤◌, inl, inr, List, drop, length, slice_get, slice_index_or, slice_set, Option, Some, None, option_map, refl, sym, ap, ◌∙◌, subst, arith}
 use Rattle.std.proofs.lemmas.Bool.{cases_eq, cases_lt}
 use Rattle.std.proofs.lemmas.List.{get_or_past, get_or-set_other, get_or-set_same, length-set}
-use Rattle.std.proofs.lemmas.Option.{slice_get_within}
+use Rattle.std.proofs.lemmas.Option.{slice_get-get_or, slice_get_within}
 use Rattle.flow_graph.specs.declared.nodes.Node.{Node}
 use Rattle.flow_graph.specs.declared.nodes.Node.TheVariants.{Start, Skip, Assign, Print, Guard, Call, Test, Return}
 use Rattle.flow_graph.specs.Blocks.{IsBlock, IsBlocks}
@@ -11,10 +11,10 @@ use Rattle.flow_graph.specs.Graphs.{GraphShape}
 use Rattle.flow_graph.specs.NumberTables.{number_at}
 use Rattle.wanted_bits.specs.declared.picking.Shift.{Shift}
 use Rattle.wanted_bits.specs.BitsOrder.{HasFew}
-use Rattle.wanted_bits.specs.Found.{AreListed, NotesFrom, behind_bits, narrowed_by, noted_past}
+use Rattle.wanted_bits.specs.Found.{AreListed, NotesFrom, behind_bits, narrowed_by}
 use Rattle.wanted_bits.specs.Narrowed.{narrowed_node}
 use Rattle.wanted_bits.specs.Wanted.{Asked}
-use Rattle.wanted_bits.specs.Walking.{AreGraphNodes, HaveBacks, assigned_bits, back_in, back_of, before_list, bits_past, bits_through}
+use Rattle.wanted_bits.specs.Walking.{AreGraphNodes, HaveBacks, back_in, back_of, before_list, bits_past, bits_through}
 use Rattle.wanted_bits.proofs.LeastNumbers.{drop_some}
 
 module _ {A : Type 0} (note : ℕ → Option Node → List ℕ → A) (blank : A) (graph : GraphShape) (asked : Asked) (back : ℕ → Option Shift) (list bits : List ℕ) (old : List A) where
@@ -84,6 +84,10 @@ module _ {A : Type 0} (note : ℕ → Option Node → List ℕ → A) (blank : A
 -- each node of a block is one of the graph
 pub block_nodes : (graph : GraphShape) (list : List ℕ) → IsBlock graph.nodes list → AreGraphNodes graph list
 block_nodes graph list block i n at = chain_within graph.nodes list i n (λ m k edge. edge_within graph.nodes m k edge) block.chain at
+
+-- the node of a number, as it is read of the list of all
+pub node_at : (nodes all : List Node) (n : ℕ) (node : Node) → all ≡ nodes → n < length nodes → node ≡ slice_index_or all n node → slice_get nodes n ≡ Some node
+node_at nodes all n node same lt is = slice_get-get_or nodes n node lt ∙ ap Some (sym (is ∙ ap (λ (l : List Node). slice_index_or l n node) same))
 
 -- the numbers through one node more
 pub walked_more : (graph : GraphShape) (asked : Asked) (back : ℕ → Option Shift) (list bits so_far new : List ℕ) (count n : ℕ) (node : Node) (b : Option Shift) → count < length list → slice_get list (length list - 1 - count) ≡ Some n → slice_get graph.nodes n ≡ Some node → b ≡ back n

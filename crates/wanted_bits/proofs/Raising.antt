@@ -1,8 +1,8 @@
 -- Numbers that are raised one after the other.
-use Rattle.std.proofs.Common.{◌≡◌, ◌≢◌, ◌↔◌, ℕ, zero, suc, ◌+◌, ◌<◌, ◌≤◌, max, Bool, true, false, ◌||◌, inl, inr, List, [], ◌∷◌, length, get_or, take, drop, ◌++◌, append-nil, slice_set, refl, sym, ap, ◌∙◌, subst, arith}
+use Rattle.std.proofs.Common.{◌≡◌, ◌≢◌, ◌↔◌, ℕ, ◌+◌, ◌<◌, ◌≤◌, max, Bool, true, false, ◌||◌, inl, inr, List, length, get_or, take, drop, ◌++◌, append-nil, slice_set, refl, sym, ap, ◌∙◌, subst, arith}
 use Rattle.std.proofs.lemmas.Bool.{cases_Bool, cases_eq, or_parts}
 use Rattle.std.proofs.lemmas.List.{drop_all, take_all, ext_get_or, get_or-set_other, get_or-set_same, length-set}
-use Rattle.wanted_bits.specs.BitsOrder.{HasFew, joined_bits}
+use Rattle.wanted_bits.specs.BitsOrder.{joined_bits}
 use Rattle.wanted_bits.specs.JoinedBits.{joined_at, joined_long}
 
 -- the numbers below place i are raised, and the others are as they were

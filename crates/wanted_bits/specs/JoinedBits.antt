@@ -1,5 +1,5 @@
 -- Numbers of which the greater one stands at each place. For proofs only, of the crates above too.
-use Rattle.std.proofs.Common.{◌≡◌, ℕ, zero, suc, ◌≤◌, max, List, [], ◌∷◌, length, get_or, refl, ap, arith}
+use Rattle.std.proofs.Common.{◌≡◌, ℕ, zero, suc, max, List, [], ◌∷◌, length, get_or, refl, ap, arith}
 use Rattle.wanted_bits.specs.BitsOrder.{HasFew, joined_bits}
 
 -- a join is as long as the first list

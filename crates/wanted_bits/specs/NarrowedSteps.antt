@@ -1,7 +1,7 @@
 -- The narrowed graph goes step by step with the graph: at one place, with values that agree on the bits that are wanted
 -- there, where what it is handed and answered agrees on the bits that are asked for. For proofs only, of the crates above
 -- too.
-use Rattle.std.proofs.Common.{◌≡◌, ℕ, zero, suc, ◌+◌, ◌^◌, ◌<◌, ◌≤◌, Bool, true, false, if◌then◌else◌, ◌&&◌, ◌||◌, not, nat_eq, nat_lt, inl, inr, List, [], ◌∷◌, length, map, flat_map, slice_get, ℤ, pos, ◌*ℤ◌, Option, Some, None, option_map, refl, sym, ap, ◌∙◌, subst, arith, true≢false, le_refl, eqb-true, eq-eqb, slice_index_or}
+use Rattle.std.proofs.Common.{◌≡◌, ℕ, zero, suc, ◌+◌, ◌^◌, ◌<◌, ◌≤◌, Bool, true, false, if◌then◌else◌, ◌&&◌, ◌||◌, not, nat_eq, nat_lt, inl, inr, List, [], ◌∷◌, length, map, slice_get, ℤ, pos, ◌*ℤ◌, Option, Some, None, option_map, refl, sym, ap, ◌∙◌, subst, arith, true≢false, le_refl, eqb-true, eq-eqb, slice_index_or}
 use Rattle.std.proofs.lemmas.Bool.{and_parts, cases_eq, cases_lt, lt-ltb, ltb-false, ltb-true, ne_eqb, not-true, or_parts, or_right}
 use Rattle.std.proofs.lemmas.List.{length-map}
 use Rattle.std.proofs.lemmas.List.FromFn.{get_or-map-range_with_len}
@@ -13,17 +13,16 @@ use Rattle.mir_base.specs.declared.instructions.Rhs.TheVariants.{Plain, Unary, B
 use Rattle.mir_base.specs.declared.instructions.Test as tests
 use Rattle.mir_base.specs.declared.operators.Op.TheVariants.{Shl}
 use Rattle.mir_base.specs.declared.operators.Trap.TheVariants.{ZeroDivisor, Raised}
-use Rattle.mir_base.specs.Frames.{Answer, CallEntry, Transition, Prints, Calls, Returns, first_frame, Values, shared_values, shared_vars, with_first, with_result, all_zero, with_value, Frame, resumed, Continues, Traps}
+use Rattle.mir_base.specs.Frames.{Answer, CallEntry, Transition, Prints, Calls, Returns, first_frame, Values, shared_values, with_first, with_result, all_zero, with_value, Frame, resumed, Continues, Traps}
 use Rattle.mir_base.specs.Units.{test_holds, at, assigned, guard_transition, operand_value}
 use Rattle.mir_base.specs.Numbers.{wrapped}
-use Rattle.mir_base.specs.Shapes.{operand_vars}
 use Rattle.mir_base.specs.Expressions.{divides, rhs_traps, rhs_value, rhs_count}
 use Rattle.mir_base.specs.ExpressionLaws.{assign_is, never_traps_where_undivided}
-use Rattle.mir_base.specs.EqualValues.{EqualOn, equal_left, equal_right, operand_equal, operands_equal, test_equal, with_other, with_same}
+use Rattle.mir_base.specs.EqualValues.{EqualOn, operand_equal, test_equal, with_other, with_same}
 use Rattle.mir_base.specs.FrameLaws.{FrameFits, ValuesFit, argument_fits, operand_fits, operands_fit, with_first_fits, at_fits, first_fits, resumed_fits, rhs_fits, shared_values_fit, with_value_fits}
 use Rattle.mir_base.specs.NumberLaws.{zero_fits}
 use Rattle.mir_base.specs.Runs.{AreNumbers}
-use Rattle.mir_base.specs.SharedLaws.{map_equal, shared_long, with_first_other, with_first_same}
+use Rattle.mir_base.specs.SharedLaws.{shared_long, with_first_other, with_first_same}
 use Rattle.mir_base.specs.UnitRuns.{AreGlobals, IsCallAnswer, IsEntry}
 use Rattle.flow_graph.specs.declared.nodes.Node.{Node}
 use Rattle.flow_graph.specs.declared.nodes.Node.TheVariants.{Start, Skip, Assign, Print, Guard, Call, Test, Return}

@@ -65,6 +65,15 @@ wanted_right Div a k = 64
 wanted_right Mod a k = 64
 wanted_right _ a k = if_any k 64
 
+-- as many bits are wanted of both operands as of the result, whatever they are
+abbrev pub wants_both : Op → Bool
+wants_both Add = true
+wants_both Sub = true
+wants_both Mul = true
+wants_both Or = true
+wants_both Xor = true
+wants_both _ = false
+
 -- the variable x by an operand of which so many bits are wanted
 abbrev pub wanted_of : Operand → ℕ → ℕ → ℕ
 wanted_of (Var y) bits x = if nat_eq x y then bits else 0

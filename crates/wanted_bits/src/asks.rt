@@ -1,5 +1,5 @@
 // What a unit asks for: of what it is handed where it is entered, and of what the units that it calls hand back.
-ghost use Rattle.std.specs.Prelude.{◌≡◌, ◌≤◌, ◌<◌, length, replicate, None, Some, IfOk, OnOk};
+ghost use Rattle.std.specs.Prelude.{◌≡◌, ◌≤◌, ◌<◌, length, None, Some, IfOk, OnOk};
 ghost use Rattle.fix_solve.specs.Net.{value_at};
 ghost use Rattle.flow_graph.specs.Blocks.{IsBlock};
 ghost use Rattle.wanted_bits.specs.Asking.{asked_by};
@@ -49,6 +49,37 @@ pub fn asks_prepared(
     ensures { IfOk result (λ asks.
         AreAsks (asked_by graph.now.shared around.now) graph.now asks.items) }
 {
+    let mut asks = no_asks(alloc, graph)?;
+    ask_again(alloc, graph, around, prepared, &mut asks)?;
+    Ok(asks)
+}
+
+/// For each node nothing, for `ask_again` to put asks there. It fails only with `Memory`.
+pub fn no_asks(alloc: Global, graph: &Graph) -> Result<Vec<Option<Widths>>, Memory>
+    ensures { IfOk result (λ asks. length asks.items ≡ length graph.now.nodes) }
+{
+    let mut asks = Vec::with_capacity(alloc, graph.len())?;
+    for made in 0..graph.len() {
+        let _ = made;
+        asks.push(None)?;
+    }
+    Ok(asks)
+}
+
+/// Leaves what `asks_prepared` answers in the place of what stands there, so that where more is asked for around the
+/// unit than before the list is not made again. It fails only with `Memory`.
+pub fn ask_again(
+    alloc: Global,
+    graph: &Graph,
+    around: &Around<'_>,
+    prepared: &Prepared,
+    asks: &mut Vec<Option<Widths>>,
+) -> Result<(), Memory>
+    requires prepared { IsPrepared graph.now prepared.now }
+    requires long { length asks.old.items ≡ length graph.now.nodes }
+    ensures { OnOk result
+        (AreAsks (asked_by graph.now.shared around.now) graph.now asks.new.items) }
+{
     let crossed = &prepared.crossed;
     let backs = prepared.backs.as_slice();
     let work = least(
@@ -59,8 +90,8 @@ pub fn asks_prepared(
         backs,
         prepared.touched.as_slice(),
     )?;
-    let asks = ask_all(alloc, graph, around, crossed, backs, &work)?;
-    Ok(asks)
+    ask_all(alloc, graph, around, crossed, backs, &work, asks)?;
+    Ok(())
 }
 
 /// The same by the numbers behind each block.
@@ -71,17 +102,18 @@ fn ask_all(
     crossed: &Crossed,
     backs: &[Option<Shift>],
     work: &Work<WantedList>,
-) -> Result<Vec<Option<Widths>>, Memory>
+    asks: &mut Vec<Option<Widths>>,
+) -> Result<(), Memory>
     requires crossed { AreCrossed graph.now crossed.now }
     requires backs { length backs.now ≡ length graph.now.nodes }
+    requires long { length asks.old.items ≡ length graph.now.nodes }
     requires least { AreLeastBehind graph.now
         (asked_by graph.now.shared around.now) crossed.now (back_in backs.now) work.now }
-    ensures { IfOk result (λ asks.
-        AreAsksBy (asked_by graph.now.shared around.now) graph.now backs.now asks.items) }
+    ensures { OnOk result
+        (AreAsksBy (asked_by graph.now.shared around.now) graph.now backs.now asks.new.items) }
 {
     let _nodes = graph.nodes();
     let _shared = graph.shared();
-    let mut asks = no_asks(alloc, graph.len())?;
     let mut room = vec![in alloc; 0; graph.vars().len()]?;
     for block in 0..crossed.blocks.len() {
         let list = crossed.blocks.nodes(block);
@@ -96,19 +128,7 @@ fn ask_all(
             list,
         )?;
     }
-    Ok(asks)
-}
-
-/// So many times nothing.
-fn no_asks(alloc: Global, count: usize) -> Result<Vec<Option<Widths>>, Memory>
-    ensures { IfOk result (λ asks. asks.items ≡ replicate count None) }
-{
-    let mut asks = Vec::with_capacity(alloc, count)?;
-    for made in 0..count {
-        let _ = made;
-        asks.push(None)?;
-    }
-    Ok(asks)
+    Ok(())
 }
 
 /// Puts in their places what the nodes of a block ask for, from the last node to the first, by the numbers behind the
@@ -132,9 +152,10 @@ fn ask_block(
         0 asks.old asks.new) }
     ensures long { OnOk result (length bits.new ≡ length bits.old) }
 {
+    let nodes = graph.nodes();
     for count in 0..list.len() {
         let n = list[list.len() - 1 - count];
-        let node = graph.node(n);
+        let node = &nodes[n];
         asks[n] = ask_of(alloc, node, bits, graph.shared())?;
         pass_back(bits, graph, around, node, backs[n]);
     }

@@ -28,7 +28,7 @@ mod walking;
 mod wanting;
 
 pub use around::{Around, Widths};
-pub use asks::{asks_around, asks_prepared};
+pub use asks::{ask_again, asks_around, asks_prepared, no_asks};
 pub use before::{wanted_before, wanted_before_in};
 pub use narrowing::{narrow, narrow_in};
 pub use picking::Shift;

@@ -1,18 +1,20 @@
 // The numbers of wanted bits through the nodes of a block, from the last to the first. They are changed in place, for the
 // variables alone that a node assigns and reads.
-ghost use Rattle.std.specs.Prelude.{◌≡◌, ◌<◌, ◌≤◌, ◌+◌, length, slice_get, slice_set, flat_map, Some};
+ghost use Rattle.std.specs.Prelude.{◌≡◌, ◌<◌, ◌≤◌, ◌+◌, true, length, slice_get, slice_set, flat_map, Some};
+ghost use Rattle.mir_base.specs.declared.instructions.Operand.TheVariants.{Var};
 ghost use Rattle.mir_base.specs.Frames.{shared_vars};
 ghost use Rattle.mir_base.specs.Shapes.{operand_vars, test_vars};
 ghost use Rattle.wanted_bits.specs.BitsOrder.{HasFew};
 ghost use Rattle.wanted_bits.specs.Asking.{argument_at, asked_by, global_at, width_at};
 ghost use Rattle.wanted_bits.specs.Walking.{HaveBacks, all_raised, all_set, among_raised, whole_width, assigned_bits, back_in, before_list, bits_at, bits_through, raised_at, raised_by, raised_own, raised_past, with_none};
 ghost use Rattle.wanted_bits.specs.Walking.{AreGraphNodes};
+ghost use Rattle.wanted_bits.specs.Wanted.{wanted_left, wanted_right};
 
 use crate::around::Around;
 use crate::picking::Shift;
-use crate::wanting::{if_any, is_undone, wanted_left, wanted_right};
+use crate::wanting::{if_any, is_undone, wanted_left, wanted_right, wants_both};
 use flow_graph::{Graph, Node};
-use mir_base::{Operand, Rhs, Test, UnOp};
+use mir_base::{Op, Operand, Rhs, Test, UnOp};
 
 /// Leaves the numbers before a list of nodes, each of which leads to the next, in the place of those behind it. Each
 /// right side shifts back what `backs` has for its node.
@@ -29,9 +31,10 @@ pub(crate) fn walk_back(
     ensures { bits.new ≡ before_list graph.now (asked_by graph.now.shared around.now)
         (back_in backs.now) list.now bits.old }
 {
+    let nodes = graph.nodes();
     for count in 0..list.len() {
         let n = list[list.len() - 1 - count];
-        pass_back(bits, graph, around, graph.node(n), backs[n]);
+        pass_back(bits, graph, around, &nodes[n], backs[n]);
     }
 }
 
@@ -50,7 +53,7 @@ pub(crate) fn pass_back(
     match node {
         Node::Start(_) => (),
         Node::Skip(_) => (),
-        Node::Assign(x, rhs, _) => assign_back(bits, *x, *rhs, back),
+        Node::Assign(x, rhs, _) => assign_back(bits, *x, rhs, back),
         Node::Print(a, _) => read(bits, *a),
         Node::Guard(test, _, _) => read_test(bits, *test),
         Node::Call(into, unit, args, _) => {
@@ -81,22 +84,73 @@ pub(crate) fn assigned_bits(node: &Node, bits: &[u8]) -> u8
 // ---- assignments
 
 /// Leaves the numbers before an assignment in the place of those behind it.
-fn assign_back(bits: &mut [u8], x: usize, rhs: Rhs, back: Option<Shift>)
+fn assign_back(bits: &mut [u8], x: usize, rhs: &Rhs, back: Option<Shift>)
     requires { HasFew bits.old }
-    ensures { bits.new ≡ raised_past (slice_set bits.old x 0) back rhs (bits_at bits.old x) }
+    ensures { bits.new ≡ raised_past (slice_set bits.old x 0) back rhs.now (bits_at bits.old x) }
 {
     let k = number_of(bits, x);
-    clear(bits, x);
     match back {
-        None => raise_own(bits, rhs, k),
-        Some(shift) => raise_back(bits, shift, rhs, k),
+        None => {
+            if !stays(bits, x, rhs, k) {
+                clear(bits, x);
+                raise_own(bits, rhs, k);
+            }
+        }
+        Some(shift) => {
+            clear(bits, x);
+            raise_back(bits, shift, rhs, k);
+        }
+    }
+}
+
+/// Whether a variable of which k bits are wanted is assigned a sum or the like of itself and of what is wanted as much:
+/// then all numbers stay.
+fn stays(bits: &[u8], x: usize, rhs: &Rhs, k: u8) -> bool
+    requires few { HasFew bits.now }
+    requires number { k ≡ bits_at bits.now x }
+    ensures { result ≡ true → bits.now ≡ raised_own (slice_set bits.now x 0) rhs.now k }
+{
+    match rhs {
+        Rhs::Binary(op, a, b) => {
+            if is_variable(*a, x) {
+                if wants_both(*op) {
+                    has_number(bits, *b, k)
+                } else {
+                    false
+                }
+            } else {
+                false
+            }
+        }
+        _ => false,
+    }
+}
+
+/// Whether an operand is this variable.
+fn is_variable(a: Operand, x: usize) -> bool
+    ensures { result ≡ true → a ≡ Var x }
+{
+    match a {
+        Operand::Var(y) => y == x,
+        Operand::Const(_) => false,
+    }
+}
+
+/// Whether at least k bits of an operand are wanted, where it is a variable.
+fn has_number(bits: &[u8], a: Operand, k: u8) -> bool
+    requires { HasFew bits.now }
+    ensures { result ≡ true → raised_by bits.now a k ≡ bits.now }
+{
+    match a {
+        Operand::Var(x) => k <= number_of(bits, x),
+        Operand::Const(_) => true,
     }
 }
 
 /// Raises what a right side wants that shifts this back, and of which k bits are wanted.
-fn raise_back(bits: &mut [u8], shift: Shift, rhs: Rhs, k: u8)
+fn raise_back(bits: &mut [u8], shift: Shift, rhs: &Rhs, k: u8)
     requires { k ≤ 64 }
-    ensures { bits.new ≡ raised_past bits.old (Some shift) rhs k }
+    ensures { bits.new ≡ raised_past bits.old (Some shift) rhs.now k }
 {
     let room = 64u8.saturating_sub(shift.distance);
     raise_to(bits, shift.source, k.min(room));
@@ -106,18 +160,30 @@ fn raise_back(bits: &mut [u8], shift: Shift, rhs: Rhs, k: u8)
 }
 
 /// Raises what a right side wants of its operands of which k bits are wanted.
-fn raise_own(bits: &mut [u8], rhs: Rhs, k: u8)
+fn raise_own(bits: &mut [u8], rhs: &Rhs, k: u8)
     requires { k ≤ 64 }
-    ensures { bits.new ≡ raised_own bits.old rhs k }
+    ensures { bits.new ≡ raised_own bits.old rhs.now k }
 {
     match rhs {
-        Rhs::Plain(a) => raise_by(bits, a, k),
-        Rhs::Unary(UnOp::Neg, a) => raise_by(bits, a, k),
-        Rhs::Unary(UnOp::Not, a) => raise_by(bits, a, if_any(k, 64)),
-        Rhs::Binary(op, a, b) => {
-            raise_by(bits, a, wanted_left(op, b, k));
-            raise_by(bits, b, wanted_right(op, a, k));
-        }
+        Rhs::Plain(a) => raise_by(bits, *a, k),
+        Rhs::Unary(UnOp::Neg, a) => raise_by(bits, *a, k),
+        Rhs::Unary(UnOp::Not, a) => raise_by(bits, *a, if_any(k, 64)),
+        Rhs::Binary(op, a, b) => raise_both(bits, *op, *a, *b, k),
+    }
+}
+
+/// Raises what an operator wants of its operands of which k bits are wanted. Most want as many of both.
+fn raise_both(bits: &mut [u8], op: Op, a: Operand, b: Operand, k: u8)
+    requires { k ≤ 64 }
+    ensures { bits.new
+        ≡ raised_by (raised_by bits.old a (wanted_left op b k)) b (wanted_right op a k) }
+{
+    if wants_both(op) {
+        raise_by(bits, a, k);
+        raise_by(bits, b, k);
+    } else {
+        raise_by(bits, a, wanted_left(op, b, k));
+        raise_by(bits, b, wanted_right(op, a, k));
     }
 }
 

@@ -2,7 +2,7 @@
 ghost use Rattle.std.specs.Prelude.{◌≡◌, ◌≤◌, ◌<◌, true, false, IfNone, IfSome};
 ghost use Rattle.mir_base.specs.Numbers.{distance, wrapped};
 ghost use Rattle.wanted_bits.specs.Agreement.{bit_length, low_bits};
-ghost use Rattle.wanted_bits.specs.Wanted.{if_any, is_right_shift, is_undone, length_of, shift_by, wanted_left, wanted_right, wanted_shl, wanted_shr};
+ghost use Rattle.wanted_bits.specs.Wanted.{if_any, is_right_shift, is_undone, length_of, shift_by, wanted_left, wanted_right, wanted_shl, wanted_shr, wants_both};
 ghost use Rattle.wanted_bits.specs.Narrowed.{has_ones, has_zeros, is_neutral, is_neutral_left, narrowed_past, without_neutral};
 
 use crate::picking::Shift;
@@ -38,6 +38,13 @@ pub(crate) fn wanted_right(op: Op, a: Operand, k: u8) -> u8
         Op::Div | Op::Mod => 64,
         _ => if_any(k, 64),
     }
+}
+
+/// Whether as many bits are wanted of both operands as of the result, whatever they are.
+pub(crate) fn wants_both(op: Op) -> bool
+    ensures { result ≡ wants_both op }
+{
+    matches!(op, Op::Add | Op::Sub | Op::Mul | Op::Or | Op::Xor)
 }
 
 /// `bits` where some bit of the result is wanted, and else 0.

@@ -5,11 +5,14 @@ use Rattle.program_bounds.proofs.SweepLaws.{sweeps_more, sweeps_none}
 use Rattle.program_bounds.proofs.known.sweep_down.Goals as goal
 
 pub loop-unit-init : goal.loop-unit-init
-loop-unit-init c = sweeps_none c.args.graphs.now.items (λ v. v < 0) (facts_of c.args.tables.now) (λ v lt. omega (arith, lt)) c.requires.progress
+loop-unit-init c = record { swept = sweeps_none c.args.graphs.now.items (λ v. v < 0) (facts_of c.args.tables.now) (λ v lt. omega (arith, lt)) c.requires.progress; fresh = c.requires.fresh }
 
 pub loop-unit-preserved : goal.loop-unit-preserved
-loop-unit-preserved c = sweeps_more c.args.graphs.now.items (λ v. v < c.loop-unit.unit) (λ v. v < c.loop-unit.unit + 1) c.loop-unit.unit (facts_of c.args.tables.now) (facts_of c.loop-unit.tables) (facts_of c.serve.new.tables) c.loop-unit.raised _
-    (λ v lt. elim (cases_eq v c.loop-unit.unit) [
-      | inl e ↦ inr e
-      | inr ne ↦ inl (omega (arith, lt, ne))
-    ]) c.loop-unit.invariant c.in_ok-raised.ensures
+loop-unit-preserved c = record {
+  swept = sweeps_more c.args.graphs.now.items (λ v. v < c.loop-unit.unit) (λ v. v < c.loop-unit.unit + 1) c.loop-unit.unit (facts_of c.args.tables.now) (facts_of c.loop-unit.tables) (facts_of c.serve_stale.new.tables) c.loop-unit.raised _
+      (λ v lt. elim (cases_eq v c.loop-unit.unit) [
+        | inl e ↦ inr e
+        | inr ne ↦ inl (omega (arith, lt, ne))
+      ]) c.loop-unit.invariant.swept c.in_ok-raised.ensures.serves;
+  fresh = c.in_ok-raised.ensures.fresh;
+}

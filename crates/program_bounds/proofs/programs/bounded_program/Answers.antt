@@ -17,7 +17,7 @@ pub least_facts-requires : goal.least_facts-requires
 least_facts-requires c = fit_together c.args.program.now.globals c.args.program.now.units c.in_ok-graphs.graphs.items c.fits_together.ensures c.in_ok-graphs.ensures
 
 pub bounded_units-requires-clause-rows : goal.bounded_units-requires-clause-rows
-bounded_units-requires-clause-rows c = c.in_ok-tables.ensures.served.fit.entries.long ∙ c.in_ok-graphs.ensures.long
+bounded_units-requires-clause-rows c = c.in_ok-tables.ensures.least.served.fit.entries.long ∙ c.in_ok-graphs.ensures.long
 
 pub with_units-requires : goal.with_units-requires
 with_units-requires c =
@@ -30,17 +30,17 @@ returns-clause-bounded c =
     let to = target (goal.at.returns-clause-bounded c).In_ok-target in
     let graphs = c.in_ok-graphs.graphs.items in
     subst (IsBoundedProgram c.args.program.now) (sym c.in_ok-target.ensures)
-    (record { graphs = graphs; are_graphs = graphs_of c.args.program.now.units graphs c.in_ok-graphs.ensures; known = known; least = c.in_ok-tables.ensures; passed = all_passed (BoundedBy known) (IsBoundedBetween known) c.args.program.now to refl c.in_ok-units.ensures })
+    (record { graphs = graphs; are_graphs = graphs_of c.args.program.now.units graphs c.in_ok-graphs.ensures; known = known; least = c.in_ok-tables.ensures.least; passed = all_passed (BoundedBy known) (IsBoundedBetween known) c.args.program.now to refl c.in_ok-units.ensures })
 
 pub returns-clause-keeps : goal.returns-clause-keeps
 returns-clause-keeps c =
     let known = facts_of c.in_ok-tables.tables in
     let to = target (goal.at.returns-clause-keeps c).In_ok-target in
-    subst (KeepsRuns c.args.program.now) (sym c.in_ok-target.ensures) (bounded_keeps known c.in_ok-graphs.graphs.items c.args.program.now to c.fits_together.ensures refl c.in_ok-units.ensures c.in_ok-graphs.ensures c.in_ok-tables.ensures)
+    subst (KeepsRuns c.args.program.now) (sym c.in_ok-target.ensures) (bounded_keeps known c.in_ok-graphs.graphs.items c.args.program.now to c.fits_together.ensures refl c.in_ok-units.ensures c.in_ok-graphs.ensures c.in_ok-tables.ensures.least)
 
 pub returns-clause-only : goal.returns-clause-only
 returns-clause-only c =
     let known = facts_of c.in_ok-tables.tables in
     let to = target (goal.at.returns-clause-only c).In_ok-target in
     subst (IsOnly (IsBoundedProgram c.args.program.now)) (sym c.in_ok-target.ensures)
-    (λ other is. bounded_only known c.in_ok-graphs.graphs.items c.args.program.now to other refl c.in_ok-units.ensures c.in_ok-graphs.ensures c.in_ok-tables.ensures is)
+    (λ other is. bounded_only known c.in_ok-graphs.graphs.items c.args.program.now to other refl c.in_ok-units.ensures c.in_ok-graphs.ensures c.in_ok-tables.ensures.least is)

@@ -11,6 +11,7 @@ loop-stale-init c =
     record {
       progress = c.requires.progress;
       fresh = all_stale graphs.items (demands_of c.args.first) c.in_ok-stale.stale.items (c.in_ok-stale.ensures.items_if_clones_equal (λ y e. e) ∙ ap (λ n. replicate n true) count);
+      asks = c.in_ok-asks.ensures;
     }
 
 pub returns-then-not-raised : goal.returns-then-not-raised

@@ -1,3 +1,4 @@
+use Rattle.program_wanted.specs.Preparing.{AreAskLists}
 use Rattle.program_wanted.specs.Stale.{FreshAreServed}
 use Rattle.program_wanted.specs.Sweeps.{IsProgress, demands_room}
 use Rattle.program_wanted.specs.Tables.{demands_of}
@@ -7,6 +8,7 @@ abbrev pub invariant-loop-stale : goal.invariant-loop-stale
 invariant-loop-stale l = record {
   progress : IsProgress l.graphs.items (demands_of l.tables);
   fresh : FreshAreServed l.graphs.items (demands_of l.tables) l.stale.items;
+  asks : AreAskLists l.graphs.items l.asks.items;
 }
 
 abbrev pub decreases-loop-stale : goal.decreases-loop-stale

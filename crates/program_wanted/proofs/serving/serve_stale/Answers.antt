@@ -1,6 +1,6 @@
 use Rattle.std.proofs.Common.{◌≡◌, ◌∙◌, ◌<◌, length, true, false, sym, arith}
 use Rattle.std.proofs.lemmas.List.{get_or_default}
-use Rattle.program_wanted.specs.Stale.{is_stale}
+use Rattle.unit_callers.specs.Stale.{is_stale}
 use Rattle.program_wanted.specs.Tables.{demands_of}
 use Rattle.program_wanted.proofs.UnitServes.{served_already}
 use Rattle.program_wanted.proofs.serving.serve_stale.Goals as goal

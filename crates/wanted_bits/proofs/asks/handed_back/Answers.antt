@@ -1,7 +1,6 @@
-use Rattle.std.proofs.Common.{◌≡◌, ◌∙◌, ℕ, suc, ◌+◌, List, [], ◌∷◌, ◌++◌, map, sym, ap, arith}
+use Rattle.std.proofs.Common.{◌≡◌, ◌∙◌, ℕ, ◌+◌, List, [], ◌∷◌, ◌++◌, map, sym, ap}
 use Rattle.std.proofs.lemmas.List.{map-append}
 use Rattle.std.specs.List.{range_with_len}
-use Rattle.mir_base.specs.Frames.{shared_vars}
 use Rattle.wanted_bits.specs.Asks.{kept_bits}
 use Rattle.wanted_bits.specs.Walking.{bits_at}
 use Rattle.wanted_bits.proofs.Asking.{range_push}

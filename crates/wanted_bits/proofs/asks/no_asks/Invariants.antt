@@ -1,5 +1,5 @@
-use Rattle.std.proofs.Common.{◌≡◌, replicate, None}
+use Rattle.std.proofs.Common.{◌≡◌, length}
 use Rattle.wanted_bits.proofs.asks.no_asks.Given as goal
 
 abbrev pub invariant-loop-made : goal.invariant-loop-made
-invariant-loop-made l = l.asks.items ≡ replicate l.made None
+invariant-loop-made l = length l.asks.items ≡ l.made

@@ -2,7 +2,6 @@ use Rattle.std.proofs.Common.{◌≡◌, ◌∙◌, ℕ, List, ap, sym, subst}
 use Rattle.mir_base.specs.Frames.{first_frame}
 use Rattle.mir_base.specs.UnitRuns.{UnitCheaper, UnitSame}
 use Rattle.flow_graph.specs.Graphs.{IsGraph}
-use Rattle.flow_graph.specs.Keeps.{AsGraph, Keeps}
 use Rattle.flow_graph.specs.KeepsLaws.{same_globals}
 use Rattle.flow_graph.specs.Machines.{graph_machine, machine_of}
 use Rattle.wanted_bits.specs.Narrowed.{AreNarrowed}

@@ -1,5 +1,0 @@
-use Rattle.program_wanted.specs.Calling.{AreCallersBelow}
-use Rattle.program_wanted.proofs.calling.callers_of.Given as goal
-
-abbrev pub invariant-loop-unit : goal.invariant-loop-unit
-invariant-loop-unit l = AreCallersBelow l.graphs.items l.unit l.callers.items
