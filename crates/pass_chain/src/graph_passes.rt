@@ -1,12 +1,11 @@
 // The passes on graphs.
-ghost use Rattle.std.specs.Prelude.{◌≡◌, IfOk};
+ghost use Rattle.std.specs.Prelude.{IfOk};
 ghost use Rattle.flow_graph.specs.Graphs.{GraphShape};
 ghost use Rattle.cond_const.specs.Folded.{IsFolded};
 ghost use Rattle.value_number.specs.Numbered.{IsNumbered};
 ghost use Rattle.copy_flow.specs.Copied.{IsCopied};
 ghost use Rattle.compare_flow.specs.Compared.{IsCompared};
 ghost use Rattle.term_flow.specs.Termed.{IsTermed};
-ghost use Rattle.sink_rounds.specs.RoundGraphs.{last_round};
 ghost use Rattle.value_bounds.specs.Bounded.{IsBounded};
 ghost use Rattle.extend_flow.specs.Extended.{IsExtended};
 ghost use Rattle.unread_div.specs.Unread.{IsUnread};
@@ -22,7 +21,7 @@ use extend_flow::extensions;
 use flow_graph::Graph;
 use mir_base::{Memory, Unit as MirUnit};
 use program_pass::laid_out;
-use sink_rounds::rounds;
+use sink_rounds::last_of_rounds;
 use std::alloc::Global;
 use term_flow::terms;
 use unread_div::unread;
@@ -30,8 +29,8 @@ use value_bounds::use_bounds;
 use value_number::number;
 use wanted_bits::narrow;
 
-/// A pass on graphs: from the graph of a unit, with clean jumps, to the unit that it makes. `exact` says when a graph is
-/// the result of the pass on another.
+/// A pass on graphs: from the graph of a unit, with clean jumps, to the unit that it makes. `exact` says when a graph
+/// is the result of the pass on another.
 pub(crate) trait GraphPass {
     ghost exact: { GraphShape → GraphShape → Type 0 };
 
@@ -99,21 +98,10 @@ impl GraphPass for Sinking {
 
     fn unit_of(alloc: Global, graph: &Graph) -> Result<MirUnit, Memory> {
         let split = split(alloc, graph)?;
-        let rounds = rounds(alloc, &split)?;
-        let unit = laid_out(alloc, last_round(&split, rounds.graphs.items()))?;
+        let last = last_of_rounds(alloc, split)?;
+        let unit = laid_out(alloc, &last)?;
         Ok(unit)
     }
-}
-
-/// The graph after all of these rounds. It does not allocate.
-fn last_round<'a>(graph: &'a Graph, rounds: &'a [Graph]) -> &'a Graph
-    ensures { result.now ≡ last_round graph.now rounds.now }
-{
-    let mut last = graph;
-    for round in rounds {
-        last = round;
-    }
-    last
 }
 
 /// Bounds of values, of `value_bounds`.

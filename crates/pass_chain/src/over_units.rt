@@ -9,8 +9,8 @@ use mir_base::{Memory, Program, Unit as MirUnit};
 use program_pass::lowered_clean;
 use std::alloc::Global;
 
-/// The program whose units are those of this one through a pass on graphs: each is lowered, cleaned, passed, cleaned and
-/// laid out; the globals stay. It fails only with `Memory`.
+/// The program whose units are those of this one through a pass on graphs: each is lowered, cleaned, passed, cleaned
+/// and laid out; the globals stay. It fails only with `Memory`.
 pub(crate) fn program_through<P: GraphPass>(
     alloc: Global,
     program: &Program,

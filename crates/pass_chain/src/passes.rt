@@ -54,15 +54,15 @@ pub enum Pass {
     Wanted,
     /// What no unit of the program wants of another goes.
     Demanded,
-    /// What the bounds of values decide, where units know what others hand over and back, stands in the place of what is
-    /// computed.
+    /// What the bounds of values decide, where units know what others hand over and back, stands in the place of what
+    /// is computed.
     Known,
     /// The units that no call leads to go.
     Called,
 }
 
-/// What a pass makes of a program. It is the same, evaluates no more operators, and never has more frames. It fails only
-/// with `Memory`.
+/// What a pass makes of a program. It is the same, evaluates no more operators, and never has more frames. It fails
+/// only with `Memory`.
 ///
 /// `Tails`, `Join`, `Arguments`, `Demanded`, `Known` and `Called` make what `tail_program`, `join_program`,
 /// `constant_arguments`, `wanted_program`, `bounded_program` and `called_program` make, and `Optimise`, `Motion` and

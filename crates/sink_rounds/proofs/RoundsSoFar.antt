@@ -1,13 +1,14 @@
 -- What is known of the rounds that a loop has made.
-use Rattle.std.proofs.Common.{◌≡◌, ◌<◌, ◌≤◌, ◌++◌, ◌∷◌, ◌⊎◌, true, false, List, [], length, inl, inr, refl, sym, ◌∙◌, subst, arith, length-append}
+use Rattle.std.proofs.Common.{◌≡◌, ℕ, ◌+◌, ◌<◌, ◌≤◌, ◌++◌, ◌∷◌, ◌⊎◌, true, false, List, [], length, inl, inr, refl, sym, ◌∙◌, subst, arith, length-append}
 use Rattle.std.proofs.lemmas.Bool.{true≢false}
 use Rattle.flow_graph.specs.Graphs.{GraphShape}
 use Rattle.sink_rounds.specs.declared.repeating.MadeRound.{MadeRound}
-use Rattle.sink_rounds.specs.RoundGraphs.{AreRounds}
+use Rattle.sink_code.specs.RoundKept.{RoundKeeps}
+use Rattle.sink_rounds.specs.RoundGraphs.{AreRounds, IsLastRound, last_round}
 use Rattle.sink_rounds.specs.RoundsKept.{RoundsKeep}
 use Rattle.sink_rounds.specs.RoundsMade.{IsMadeRound}
 use Rattle.sink_rounds.specs.Steps.{AreBestSteps, IsBestStep}
-use Rattle.sink_rounds.specs.RoundLaws.{LeadBy, keep_on, lead_on, rounds_end}
+use Rattle.sink_rounds.specs.RoundLaws.{LeadBy, keep_on, last_keeps, lead_on, rounds_are_one, rounds_end}
 
 -- the rounds lead from the graph to one of which `last` is a round, and keep what they should
 pub record AreSoFar (graph : GraphShape) (rounds : List GraphShape) (last : MadeRound) : Type 0 where
@@ -52,3 +53,49 @@ all_keep graph rounds last so_far = keep_on graph rounds so_far.before last.grap
 -- and each is the best step
 pub all_best : (graph : GraphShape) (rounds : List GraphShape) (last : MadeRound) → AreSoFar graph rounds last → AreBestSteps graph (rounds ++ last.graph ∷ [])
 all_best graph rounds last so_far = best_on graph rounds so_far.before last.graph so_far.leads so_far.best so_far.made.best
+
+-- ---- only the last is kept
+
+-- so many rounds lead from the graph to one of which `last` is a round
+pub record AreBefore (graph : GraphShape) (before : ℕ) (last : MadeRound) : Type 0 where
+  pub rounds : List GraphShape
+  pub so_far : AreSoFar graph rounds last
+  pub many : length rounds ≡ before
+
+-- at first there is none
+pub none_before : (graph : GraphShape) (last : MadeRound) → IsMadeRound graph last → AreBefore graph 0 last
+none_before graph last made = record { rounds = []; so_far = first_round graph last made; many = refl }
+
+-- a round that changes the layout, and one more
+pub one_before : (graph : GraphShape) (before : ℕ) (last next : MadeRound) → AreBefore graph before last → last.changed ≡ true → before < 15 → IsMadeRound last.graph next → AreBefore graph (before + 1) next
+one_before graph before last next so changed few made = record {
+  rounds = so.rounds ++ last.graph ∷ [];
+  so_far = one_more graph so.rounds last next so.so_far changed (omega (arith, few, so.many)) made;
+  many = omega (arith, so.many, length-append so.rounds (last.graph ∷ []));
+}
+
+-- the last of a list is what stands at its end
+last_pushed : (graph : GraphShape) (rounds : List GraphShape) (last : GraphShape) → last_round graph (rounds ++ last ∷ []) ≡ last
+last_pushed graph [] last = refl
+last_pushed graph (round ∷ rounds) last = last_pushed round rounds last
+
+module _ (graph : GraphShape) (before : ℕ) (last : MadeRound) (so : AreBefore graph before last) (ends : (last.changed ≡ false) ⊎ (15 ≤ before)) where
+  -- with the last one they are the rounds of the graph
+  all_before : AreRounds graph (so.rounds ++ last.graph ∷ [])
+  all_before = all_rounds graph so.rounds last so.so_far (elim ends [
+    | inl same ↦ inl same
+    | inr many ↦ inr (omega (arith, many, so.many))
+  ])
+
+  -- of which it is the last
+  pub is_last : IsLastRound graph last.graph
+  is_last = record {
+    rounds = so.rounds ++ last.graph ∷ [];
+    are_rounds = all_before;
+    only = λ other are. rounds_are_one graph other (so.rounds ++ last.graph ∷ []) are all_before;
+    is = sym (last_pushed graph so.rounds last.graph);
+  }
+
+  -- and keeps what it should
+  pub last_kept : RoundKeeps graph last.graph
+  last_kept = subst (RoundKeeps graph) (last_pushed graph so.rounds last.graph) (last_keeps graph (so.rounds ++ last.graph ∷ []) all_before (all_keep graph so.rounds last so.so_far))

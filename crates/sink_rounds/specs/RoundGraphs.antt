@@ -52,3 +52,10 @@ AreOnlyRounds graph rounds = (other : List GraphShape) → AreRounds graph other
 abbrev pub last_round : GraphShape → List GraphShape → GraphShape
 last_round graph [] = graph
 last_round graph (round ∷ rounds) = last_round round rounds
+
+-- it is the last of the rounds of the graph, which has no others
+pub record IsLastRound (graph last : GraphShape) : Type 0 where
+  pub rounds : List GraphShape
+  pub are_rounds : AreRounds graph rounds
+  pub only : AreOnlyRounds graph rounds
+  pub is : last ≡ last_round graph rounds

@@ -11,4 +11,4 @@ mod answers;
 mod repeating;
 
 pub use answers::{Round, Rounds};
-pub use repeating::{MOST_ROUNDS, round, rounds};
+pub use repeating::{MOST_ROUNDS, last_of_rounds, round, rounds};

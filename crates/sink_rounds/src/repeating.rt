@@ -3,8 +3,9 @@ ghost use Rattle.std.specs.Prelude.{IfOk};
 ghost use Rattle.flow_graph.specs.Edges.{IsSplit};
 ghost use Rattle.flow_graph.specs.Layouts.{IsLayout};
 ghost use Rattle.graph_edit.specs.GraphFlows.{IsFlowOf};
-ghost use Rattle.sink_rounds.specs.RoundGraphs.{AreOnlyRounds, AreRounds, IsOnlyRound, IsRound, KeepsGlobals, SaysChanged, last_round};
+ghost use Rattle.sink_rounds.specs.RoundGraphs.{AreOnlyRounds, AreRounds, IsLastRound, IsOnlyRound, IsRound, KeepsGlobals, SaysChanged, last_round};
 ghost use Rattle.sink_code.specs.RoundKept.{RoundKeeps};
+ghost use Rattle.sink_code.specs.SunkGraphs.{IsSunk};
 ghost use Rattle.sink_rounds.specs.RoundsKept.{RoundsKeep};
 ghost use Rattle.sink_rounds.specs.Steps.{AreBestSteps, IsBestStep};
 ghost use Rattle.sink_rounds.specs.RoundsMade.{IsMadeRound, IsPrunedRound};
@@ -16,7 +17,6 @@ use graph_edit::GraphFlow;
 use mir_base::{Items, Memory, Unit as MirUnit};
 use sink_code::sunk;
 use std::alloc::Global;
-use std::mem;
 use unit_equal::same_unit;
 
 /// The most rounds that `rounds` makes.
@@ -66,13 +66,52 @@ pub fn rounds(alloc: Global, graph: &Graph) -> Result<Rounds, Memory>
     let mut last = first_round(alloc, graph)?;
     let mut rounds = Vec::new(alloc);
     'rounds: while last.changed && rounds.len() < MOST_ROUNDS - 1 {
-        let next = next_round(alloc, &last.graph, &last.flow, &last.unit)?;
-        rounds.push(mem::replace(&mut last, next).graph)?;
+        let MadeRound {
+            graph: made,
+            flow,
+            unit,
+            ..
+        } = last;
+        let next = next_round(alloc, &made, flow, &unit)?;
+        rounds.push(made)?;
+        last = next;
     }
     rounds.push(last.graph)?;
     Ok(Rounds {
         graphs: Items::of(rounds),
     })
+}
+
+/// The last of the rounds that `rounds` makes of a split graph. The others are let go on the way, so that no more than
+/// two graphs stand in memory at once. It fails only with `Memory`.
+pub fn last_of_rounds(alloc: Global, graph: Graph) -> Result<Graph, Memory>
+    requires { IsSplit graph.nodes }
+    ensures exact { IfOk result (IsLastRound graph) }
+    ensures keeps { IfOk result (RoundKeeps graph) }
+{
+    let mut last = first_of(alloc, graph)?;
+    let mut before = 0;
+    'rounds: while last.changed && before < MOST_ROUNDS - 1 {
+        let MadeRound {
+            graph: made,
+            flow,
+            unit,
+            ..
+        } = last;
+        let next = next_round(alloc, &made, flow, &unit)?;
+        last = next;
+        before += 1;
+    }
+    Ok(last.graph)
+}
+
+/// The first round of a graph, which is let go.
+fn first_of(alloc: Global, graph: Graph) -> Result<MadeRound, Memory>
+    requires { IsSplit graph.nodes }
+    ensures { IfOk result (IsMadeRound graph) }
+{
+    let made = first_round(alloc, &graph)?;
+    Ok(made)
 }
 
 /// A round with its edges, its blocks and its layout.
@@ -91,7 +130,7 @@ fn first_round(alloc: Global, graph: &Graph) -> Result<MadeRound, Memory>
 {
     let unit = layout(alloc, graph)?;
     let flow = GraphFlow::of(alloc, graph)?;
-    let made = next_round(alloc, graph, &flow, &unit)?;
+    let made = next_round(alloc, graph, flow, &unit)?;
     Ok(made)
 }
 
@@ -99,11 +138,11 @@ fn first_round(alloc: Global, graph: &Graph) -> Result<MadeRound, Memory>
 fn next_round(
     alloc: Global,
     graph: &Graph,
-    flow: &GraphFlow,
+    flow: GraphFlow,
     unit: &MirUnit,
 ) -> Result<MadeRound, Memory>
     requires split { IsSplit graph.now.nodes }
-    requires flow { IsFlowOf graph.now.nodes flow.now }
+    requires flow { IsFlowOf graph.now.nodes flow }
     requires unit { IsLayout graph.now unit.now }
     ensures { IfOk result (IsMadeRound graph.now) }
 {
@@ -130,12 +169,12 @@ struct PrunedRound {
 }
 
 /// The graph whose assignments have sunk, without the dead ones. These leave its edges and blocks as they are.
-fn sunk_and_pruned(alloc: Global, graph: &Graph, flow: &GraphFlow) -> Result<PrunedRound, Memory>
+fn sunk_and_pruned(alloc: Global, graph: &Graph, flow: GraphFlow) -> Result<PrunedRound, Memory>
     requires split { IsSplit graph.now.nodes }
-    requires flow { IsFlowOf graph.now.nodes flow.now }
+    requires flow { IsFlowOf graph.now.nodes flow }
     ensures { IfOk result (IsPrunedRound graph.now) }
 {
-    let sunk = sunk(alloc, graph, flow)?;
+    let sunk = sunk_by(alloc, graph, flow)?;
     let flow = GraphFlow::of(alloc, &sunk)?;
     let pruned = pruned(alloc, sunk, &flow)?;
     let _nodes = pruned.nodes();
@@ -143,4 +182,16 @@ fn sunk_and_pruned(alloc: Global, graph: &Graph, flow: &GraphFlow) -> Result<Pru
         graph: pruned,
         flow,
     })
+}
+
+/// The graph whose assignments have sunk. The edges and the blocks of the graph before are let go, so that those of two
+/// graphs do not stand in memory at once.
+fn sunk_by(alloc: Global, graph: &Graph, flow: GraphFlow) -> Result<Graph, Memory>
+    requires split { IsSplit graph.now.nodes }
+    requires flow { IsFlowOf graph.now.nodes flow }
+    ensures exact { IfOk result (IsSunk graph.now) }
+    ensures keeps { IfOk result (RoundKeeps graph.now) }
+{
+    let sunk = sunk(alloc, graph, &flow)?;
+    Ok(sunk)
 }

@@ -1,6 +1,5 @@
-use Rattle.std.proofs.Common.{◌≡◌, ◌∙◌, ◌<◌, ◌≤◌, ◌++◌, ◌∷◌, ◌⊎◌, List, [], false, inl, inr, length, ap, sym, subst, arith}
+use Rattle.std.proofs.Common.{◌≡◌, ◌∙◌, ◌<◌, ◌≤◌, ◌++◌, ◌∷◌, ◌⊎◌, List, [], false, inl, inr, length, sym, subst, arith}
 use Rattle.flow_graph.specs.Graphs.{GraphShape}
-use Rattle.sink_rounds.specs.declared.repeating.MadeRound.{MadeRound}
 use Rattle.sink_rounds.specs.RoundGraphs.{AreRounds}
 use Rattle.sink_rounds.specs.RoundLaws.{last_keeps, rounds_are_one}
 use Rattle.sink_rounds.specs.RoundsKept.{RoundsKeep}
@@ -15,8 +14,7 @@ rounds-preserved c =
     let rounds = c.rounds.rounds.items in
     let few : length c.rounds.rounds.items < 15 = omega (arith, c.if-len.true, c.len.ensures) in
     let more = one_more graph rounds c.rounds.last c.in_ok-next.next c.rounds.invariant c.rounds-test.true few c.in_ok-next.ensures in
-    let pushed = c.in_ok-push.ensures.items ∙ ap (λ (m : MadeRound). rounds ++ m.graph ∷ []) c.replace.ensures.value in
-    subst (AreSoFar graph c.push.new.self.items) (sym c.replace.ensures.after) (subst (λ (l : List GraphShape). AreSoFar graph l c.in_ok-next.next) (sym pushed) more)
+    subst (λ (l : List GraphShape). AreSoFar graph l c.in_ok-next.next) (sym c.in_ok-push.ensures.items) more
 
 -- how the loop ended
 ends : (c : After-of) → (c.rounds.last.changed ≡ false) ⊎ (15 ≤ length c.rounds.rounds.items)
