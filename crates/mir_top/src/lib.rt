@@ -5,8 +5,8 @@
 //! error output, a status, and the programs that were read and made. The theorem is on `top`: where the words ask for a
 //! program, what is written is the canonical text of one that is the same as the one that was read; under `optimise`,
 //! `move`, `stages` and `ranges` its code motion evaluates nothing more often on any full path than an admissible
-//! placement does, and under `divisions` so it is of divisions. Else it is the text of each stage, of ranges, the report
-//! of a run or the summary of a trial; and every other reply has its cause.
+//! placement does, and under `divisions` so it is of divisions. Else it is the text of each stage, of ranges, the
+//! report of a run or the summary of a trial; and every other reply has its cause.
 #![tactic(auto)]
 
 mod call;

@@ -4,14 +4,14 @@ use Rattle.std.specs.Prelude.{◌≡◌, ◌≢◌, ◌⊎◌, ℕ, zero, suc, L
 use Rattle.mir_base.specs.Shapes.{ProgramShape}
 use Rattle.program_pass.specs.PassPrograms.{Rewrites}
 use Rattle.pass_chain.specs.declared.passes.Pass.{Pass}
-use Rattle.pass_chain.specs.declared.passes.Pass.TheVariants.{Tails, Join, Arguments, Optimise, Terms, Bounds, Extensions, Unread, Demanded, Called}
+use Rattle.pass_chain.specs.declared.passes.Pass.TheVariants.{Tails, Join, Arguments, Optimise, Terms, Extensions, Unread, Demanded, Known, Called}
 use Rattle.pass_chain.specs.Passes.{IsChained}
 
 -- the passes of a turn, from the first to the last
 abbrev pub turn : List Pass
 turn =
     Tails ∷ Join ∷ Arguments ∷ Optimise
-    ∷ Terms ∷ Demanded ∷ Bounds ∷ Extensions ∷ Unread ∷ Called ∷ []
+    ∷ Terms ∷ Demanded ∷ Known ∷ Extensions ∷ Unread ∷ Called ∷ []
 
 -- at most so many turns, one after the other, until a turn changes nothing
 abbrev pub TurnsMake : ℕ → ProgramShape → ProgramShape → Type 0
@@ -31,7 +31,7 @@ first_half = Tails ∷ Join ∷ Arguments ∷ Optimise ∷ []
 
 -- the passes after them
 abbrev pub second_half : List Pass
-second_half = Terms ∷ Demanded ∷ Bounds ∷ Extensions ∷ Unread ∷ Called ∷ []
+second_half = Terms ∷ Demanded ∷ Known ∷ Extensions ∷ Unread ∷ Called ∷ []
 
 -- a turn of the source made these two programs: the first by its first half, the second by all of it
 pub record IsTurn (source half whole : ProgramShape) : Type 0 where

@@ -1,7 +1,7 @@
 //! Turns of passes until nothing changes. In go a program, and out comes the program after turns of the passes of a
 //! turn until one changes nothing, sixteen at the most (`thorough_program`). In a turn self tail calls become loops,
 //! leaves are joined into their callers, and constants that all calls give are known in their units. Each unit goes
-//! through `optimise`, and then through the passes that `optimise` has no part of: `terms`, `demanded`, `bounds`,
+//! through `optimise`, and then through the passes that `optimise` has no part of: `terms`, `demanded`, `known`,
 //! `extensions` and `unread`. At last the units that no call leads to are dropped. So what a join brings together is
 //! folded and moved, and a unit whose calls have gone may be a leaf of the next turn.
 //!

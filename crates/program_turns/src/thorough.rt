@@ -17,7 +17,7 @@ const FIRST_HALF: [Pass; 4] = [Pass::Tails, Pass::Join, Pass::Arguments, Pass::O
 const SECOND_HALF: [Pass; 6] = [
     Pass::Terms,
     Pass::Demanded,
-    Pass::Bounds,
+    Pass::Known,
     Pass::Extensions,
     Pass::Unread,
     Pass::Called,
