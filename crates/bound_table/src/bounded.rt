@@ -10,8 +10,8 @@ use std::alloc::Global;
 use table_text::{PassTable, text_of_pass};
 use value_bounds::use_bounds;
 
-/// The tables of `bounds`: for each unit of a program what is known of its variables before each node, and the graphs on
-/// the way to that in which it is used. It fails only with `Memory`.
+/// The tables of `bounds`: for each unit of a program what is known of its variables before each node, and the graphs
+/// on the way to that in which it is used. It fails only with `Memory`.
 pub fn text_of_bounds(alloc: Global, program: &Program) -> Result<Vec<u8>, Memory>
     ensures { IfOk result (λ text. ShowsBounds program.now text.items) }
 {

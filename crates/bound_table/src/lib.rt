@@ -4,8 +4,8 @@
 //! pass works, before each of its nodes the bounds of each variable, and the graph in which they are used.
 //! docs/TABLES.md defines the text for a reader.
 //!
-//! The theorem that this crate carries is the contract of this function: the graphs are those of the pass, and the bounds
-//! are the least ones, with nothing left out.
+//! The theorem that this crate carries is the contract of this function: the graphs are those of the pass, and the
+//! bounds are the least ones, with nothing left out.
 #![tactic(auto)]
 
 mod bounded;

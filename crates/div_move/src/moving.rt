@@ -45,8 +45,8 @@ pub fn move_dividing(alloc: Global, graph: &Graph) -> Result<DivMove, Memory>
     ensures comes { IfOk result (λ made.
         InsertionsCome graph.now made.table made.placement) }
 
-    // so where a division that is evaluated before a node traps, a run of the graph from the node traps alike, and shows
-    // nothing before
+    // so where a division that is evaluated before a node traps, a run of the graph from the node traps alike, and
+    // shows nothing before
     ensures traps { IfOk result (λ made.
         InsertionsTrapAlike graph.now made.table made.placement) }
 

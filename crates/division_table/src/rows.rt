@@ -1,5 +1,5 @@
-// What the motion of divisions finds out of a split graph, as rows with one row for each node, or for each edge, and one
-// bit for each expression. Each function fails only with `Memory`.
+// What the motion of divisions finds out of a split graph, as rows with one row for each node, or for each edge, and
+// one bit for each expression. Each function fails only with `Memory`.
 ghost use Rattle.std.specs.Prelude.{◌≡◌, IfOk};
 ghost use Rattle.flow_graph.specs.Edges.{IsSplit, edges_of};
 ghost use Rattle.motion_rewrite.specs.Placements.{IsAnticipatable};

@@ -1,4 +1,4 @@
-// Edits of a graph: new assignments before nodes, and changed assignments, with no memory but at the beginning.
+// Edits of a graph: new assignments before nodes, and changed assignments. All memory for them is allocated by `open`.
 ghost use Rattle.std.specs.Prelude.{◌≡◌, ◌++◌, ◌+◌, ◌<◌, ◌≤◌, ℕ, length, slice_get, take, IfOk, IsTrue};
 ghost use Rattle.mir_base.specs.Shapes.{AllBelow, AllDiffer, rhs_vars};
 ghost use Rattle.node_list.specs.Lists.{is_listed};
@@ -18,9 +18,9 @@ use std::mem;
 /// A graph that is being edited: `open` takes a graph, `put_before` and `change` edit it, and `close` gives the graph.
 /// Contracts see it as the graph as it stands and the number of assignments for which there is still room.
 ///
-/// Each old node has a list of nodes that ends with it: the new ones before it, in order, and then the node. An edge of
-/// an old node leads to the first node of its target's list; the edge of a new node leads to the next node of its own
-/// list.
+/// The old nodes are those of the graph that was opened. Each has a list of nodes that ends with it: the new
+/// assignments before it, in order, and then the node. An edge of an old node leads to the first node of its target's
+/// list; the edge of a new node leads to the next node of its own list.
 #[derive(Drop)]
 pub struct Editor {
     name: Name,
@@ -94,9 +94,10 @@ impl Editor {
         })
     }
 
-    /// Puts the assignment of `rhs` to the variable `x` before `node`. It gets the next number, all edges that entered
-    /// the node enter it, and its successor is the node. There is room for it, `node` is a node of the graph and not
-    /// Start, and `x` and the variables of `rhs` are variables of the graph. It does not allocate.
+    /// Puts the assignment of `rhs` to the variable `x` right before `node`, behind those that were put there earlier.
+    /// It gets the next number, its successor is the node, and all edges that entered the node now enter it. There is
+    /// room for it, `node` is a node of the graph and not Start, and `x` and the variables of `rhs` are variables of
+    /// the graph. It does not allocate.
     pub fn put_before(&mut self, node: usize, x: usize, rhs: Rhs)
         requires spare { 1 ≤ self.old.spare }
         requires some { 1 ≤ node }
@@ -176,7 +177,7 @@ pub(crate) fn changed(node: Node, rhs: Option<Rhs>) -> Node
     }
 }
 
-/// Leads each edge to where it ends. So many nodes, the first ones, are old, and each of them has a list.
+/// Sets the successors of all nodes by the lists. The first `olds` nodes are old, and each of them has a list.
 fn lead_nodes(nodes: &mut [Node], olds: usize, links: &Links)
     requires count { length links.now.lists ≡ olds }
     requires firsts { EachHasFirst links.now.lists }
@@ -190,7 +191,7 @@ fn lead_nodes(nodes: &mut [Node], olds: usize, links: &Links)
     }
 }
 
-/// Leads the edges of the node of this number to where they end.
+/// Sets the successors of the node of this number by the lists.
 fn lead_node(number: usize, node: &mut Node, olds: usize, firsts: &[usize], links: &Links)
     requires count { length links.now.lists ≡ olds }
     requires long { length firsts.now ≡ olds }

@@ -40,7 +40,7 @@ fn empty_flagged(nodes: &mut [Node], flags: &[bool])
     }
 }
 
-/// Makes the node of this number, where it is an assignment, a Skip.
+/// Makes the node of this number a Skip to its successor where it is an assignment, and leaves any other as it is.
 fn empty(nodes: &mut [Node], n: usize)
     requires { n < length nodes.old }
     ensures { nodes.new ≡ change_at n Removed nodes.old }

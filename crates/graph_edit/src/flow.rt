@@ -1,4 +1,4 @@
-// The edges and the blocks of a graph, kept from round to round.
+// The edges and the blocks of a graph, which are kept as long as edits change no edge.
 ghost use Rattle.std.specs.Prelude.{IfOk};
 ghost use Rattle.graph_edit.specs.GraphFlows.{IsFlowOf};
 
@@ -6,8 +6,8 @@ use flow_graph::{Blocks, Edges, Graph};
 use mir_base::Memory;
 use std::alloc::Global;
 
-/// What the successors of a graph's nodes alone decide: its edges and its blocks. Graphs whose nodes have the same
-/// successors share them.
+/// The edges and the blocks of a graph. They depend on the successors of its nodes alone, so that one `GraphFlow`
+/// serves all graphs whose nodes have the same successors.
 #[derive(Drop)]
 pub struct GraphFlow {
     /// The edges.

@@ -20,8 +20,8 @@ pub fn is_skip(node: &Node) -> bool
     }
 }
 
-/// Whether a node is of a kind that reads and assigns nothing, Start or a Skip, so that it is passed over at
-/// once. It does not allocate.
+/// Whether a node is Start or a Skip, which read and assign no variable, so that an analysis need not look at it. It
+/// does not allocate.
 pub fn touches_none(node: &Node) -> bool
     ensures { result ≡ touches_none node.now }
 {

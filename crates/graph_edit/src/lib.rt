@@ -4,7 +4,7 @@
 //! the edited graph. Where assignments are only removed, `without_flagged` does so in place, with no memory. The
 //! definitions in `specs/` say which graph this is, edit by edit and of all edits together. The laws beside them say
 //! when it does the same and what is assigned on each of its paths: passes that move assignments are proved by them.
-//! Edits that change no edge leave a graph its `GraphFlow`, the edges and the blocks, so these are made once.
+//! A `GraphFlow` has the edges and the blocks of a graph; it is made once, and serves as long as edits change no edge.
 #![tactic(auto)]
 
 mod editor;

@@ -1,5 +1,5 @@
-// The equations of the lazy placement. In go the rows of the nodes that use each expression and at which it is earliest;
-// out come those at which it is delayed, latest and isolated, and what is placed from that.
+// The equations of the lazy placement. In go the rows of the nodes that use each expression and at which it is
+// earliest; out come those at which it is delayed, latest and isolated, and what is placed from that.
 ghost use Rattle.std.specs.Prelude.{◌≡◌, IfOk, OnOk};
 ghost use Rattle.bit_rows.specs.Bits.{AreAlike};
 ghost use Rattle.flow_graph.specs.Blocks.{AreBlocksOf};

@@ -22,9 +22,9 @@ use std::alloc::Global;
 /// tables.
 const PART: usize = 4096;
 
-/// The lazy placement of each expression of the table, with the blocks of the graph at hand. Expressions that stay where
-/// they are are not asked for, and the others are placed part by part, unless the table is no longer than a part and
-/// nearly all of it is to be placed.
+/// The lazy placement of each expression of the table, with the blocks of the graph at hand. Expressions that stay
+/// where they are are not asked for, and the others are placed part by part, unless the table is no longer than a part
+/// and nearly all of it is to be placed.
 pub(crate) fn placed_by_parts<R: DownRule>(
     alloc: Global,
     rule: &R,

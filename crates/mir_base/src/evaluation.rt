@@ -46,7 +46,7 @@ pub fn eval(op: Op, a: i64, b: i64) -> Result<i64, Trap>
     }
 }
 
-/// The value of an operator on one number. It does not allocate.
+/// The value of an operator on one signed 64-bit number. It never traps, and does not allocate.
 pub fn eval1(op: UnOp, a: i64) -> i64
     ensures { result ≡ value_of_un_op op a }
 {
@@ -100,7 +100,7 @@ pub fn expr_of(rhs: &Rhs) -> Option<Expr>
     }
 }
 
-/// How far a shift by this number goes.
+/// By how many bits a shift by this number moves: its remainder modulo 64, from 0 to 63.
 fn distance(by: i64) -> u32
     ensures value { result ≡ distance by }
     ensures below { result < 64 }
@@ -108,7 +108,7 @@ fn distance(by: i64) -> u32
     by.rem_euclid(64) as u32
 }
 
-/// Whether the operator divides, so that a divisor of 0 traps.
+/// Whether the operator is `Div` or `Mod`, so that a divisor of 0 traps.
 fn is_dividing(op: Op) -> bool
     ensures { result ≡ is_dividing op }
 {

@@ -11,11 +11,11 @@ use std::marker::Model;
 pub enum Operand {
     /// The variable of this number.
     Var(usize),
-    /// This number.
+    /// This constant, a signed 64-bit number.
     Const(i64),
 }
 
-/// What `SmallVec` keeps in its unused places.
+/// The constant 0, with which `SmallVec` fills its unused places. It means nothing to the language.
 impl Default for Operand {
     fn default() -> Operand {
         Operand::Const(0)
@@ -25,7 +25,7 @@ impl Default for Operand {
 /// The right side of an assignment.
 #[derive(Clone, Copy, Debug, PartialEq, Eq, Hash)]
 pub enum Rhs {
-    /// An operand alone, which is no evaluation.
+    /// An operand alone, as in `x <- y`. It counts as no evaluation, since no operator is applied.
     Plain(Operand),
     /// An operator on one operand.
     Unary(UnOp, Operand),
@@ -53,8 +53,8 @@ pub enum Test {
     Fails(Operand),
 }
 
-/// The arguments of a call, in order. Contracts see them as the list of the operands. One alone does not allocate of its
-/// own: room for more would make every instruction and every node larger.
+/// The arguments of a call, in order. Contracts see them as the list of the operands. A single argument is kept without
+/// an allocation of its own. Space for more would make every instruction and every node larger.
 #[derive(Drop)]
 pub struct Args {
     operands: SmallVec<Operand, 1>,
@@ -96,7 +96,7 @@ impl Clone for Args {
 }
 
 /// An instruction. Variables and units are named by their numbers. A target of a jump is a place of the body: the
-/// number of an instruction, counted from 0, or the length of the body, which is the place of its `end`.
+/// number of an instruction in the body, counted from 0, or the length of the body, which is the place of its `end`.
 #[derive(Drop)]
 pub enum Inst {
     /// Receive number i of a unit, counted from 0, sets its variable to argument number i.
@@ -111,9 +111,9 @@ pub enum Inst {
     TrapIf(Test, u8),
     /// The unit of this number is called with these arguments. Its result goes to the variable, where there is one.
     Call(Option<usize>, usize, Args),
-    /// The number is printed.
+    /// The value of the operand is printed.
     Print(Operand),
-    /// The unit returns this number.
+    /// The unit returns the value of the operand.
     Return(Operand),
 }
 

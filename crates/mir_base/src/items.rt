@@ -6,7 +6,7 @@ use std::alloc::{AllocError, Global};
 use std::marker::Model;
 
 /// A list in a program or in the result of a pass. Contracts see it as the list of its items, so that two lists with
-/// equal items are equal, whatever room they have for more.
+/// equal items are equal, whatever their capacities are.
 #[derive(Drop)]
 pub struct Items<T> {
     items: Vec<T>,
@@ -31,7 +31,7 @@ impl<T> Items<T> {
         Items { items }
     }
 
-    /// The empty list. It does not allocate; `alloc` is where the list takes it from when it grows.
+    /// The empty list. It does not allocate; `alloc` gives the memory when the list grows.
     pub fn new(alloc: Global) -> Items<T>
         ensures { result ≡ [] }
     {

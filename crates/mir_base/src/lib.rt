@@ -1,14 +1,15 @@
 //! The language: its programs as data, what they mean, and their canonical text.
 //!
 //! In go names, numbers and lists of instructions; out come programs whose parts are known to fit together. The
-//! definitions in `specs/` say what a program means (the values of operators, one step of a frame, a run as a stack of
-//! frames), when two programs are the same, and what the text of a program is. They also say when a unit and what it
-//! was rewritten to do the same and evaluate no more operators, by runs of one frame with answers to its calls
-//! (`UnitSame`, `UnitCheaper`), and give the two rules by which the crates above prove it: `Simulates` and `Lockstep`.
+//! definitions in `specs/` say what a program means (the values of operators; one step of a frame, which is a call that
+//! has not returned; a run as a stack of frames), when two programs are the same, and what the text of a program is.
+//! They also say when a unit, and what a pass made of it, do the same and when that evaluates no more operators
+//! (`UnitSame`, `UnitCheaper`): by runs of one frame, where any answers to its calls are assumed. And they give the two
+//! rules by which the crates above prove it: `Simulates` and `Lockstep`.
 //!
 //! What is proved here is that code and definitions agree (`eval` gives the value of each operator, and traps exactly
-//! where a divisor is 0), and that the two rules hold: what `Simulates` or goes in `Lockstep` does the same and
-//! evaluates no more operators.
+//! where a divisor is 0), and that the two rules hold: a second side that simulates the first, or goes in lockstep with
+//! it, does the same and evaluates no more operators.
 #![tactic(auto)]
 
 mod evaluation;

@@ -40,7 +40,7 @@ impl Name {
         }
     }
 
-    /// The name of these bytes, which are known to be spelled as one. It does not allocate, and looks at no byte.
+    /// The name of these bytes, which are known to be spelled as one, so that nothing is checked. It does not allocate.
     pub fn of(bytes: Vec<u8>) -> Name
         requires { IsName bytes.items }
         ensures { result ≡ bytes.items }
@@ -48,8 +48,8 @@ impl Name {
         Name { bytes }
     }
 
-    /// The name of these bytes with the number in decimal behind them. A name can begin with the bytes, which are at
-    /// most 44. It fails only with `Memory`.
+    /// The name of these bytes with the number in decimal behind them. They begin as a name does and are at most 44, so
+    /// that with at most 20 digits the name is not too long. It fails only with `Memory`.
     pub fn numbered(alloc: Global, front: &[u8], number: usize) -> Result<Name, Memory>
         requires { CanBeNumbered front.now }
         ensures { IfOk result (λ name. name ≡ numbered_name front.now number) }
@@ -99,7 +99,7 @@ fn begins_as_name(bytes: &[u8]) -> bool
     }
 }
 
-/// Whether each byte may stand in a name.
+/// Whether each of the bytes may stand in a name.
 fn has_name_bytes(bytes: &[u8]) -> bool
     ensures { result ≡ list_all is_name_byte bytes.now }
 {

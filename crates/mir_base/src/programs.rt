@@ -169,7 +169,7 @@ impl Clone for Program {
     }
 }
 
-/// How many receives stand first.
+/// How many receives the body begins with.
 fn receives(body: &[Inst]) -> usize
     ensures { result ≡ receives_in body.now }
 {

@@ -56,7 +56,7 @@ fn word_among(table: &[(&[u8], Word)], bytes: &[u8]) -> Option<Word>
     None
 }
 
-/// Whether the bytes are this text. Most differ in their first byte, and are not looked at further. It does not
+/// Whether the bytes are this text. Most differ in their first byte, and then no other byte is compared. It does not
 /// allocate.
 pub fn is_text(text: &[u8], bytes: &[u8]) -> bool
     ensures { result ≡ is_text text.now bytes.now }
@@ -67,7 +67,7 @@ pub fn is_text(text: &[u8], bytes: &[u8]) -> bool
     text == bytes
 }
 
-// The reserved words of so many bytes, each behind its spelling.
+// The reserved words by the number of their bytes, each behind its spelling.
 const OF_2: [(&[u8], Word); 2] = [(b"if", Word::If), (b"or", Word::Or)];
 
 const OF_3: [(&[u8], Word); 8] = [

@@ -1,8 +1,8 @@
 //! `mir` for C: two calls over memory alone, with words and a text, for what `mir` does and for tables. `c/mir.h`
 //! says what C gives and holds, and each clause here speaks of a caller that does.
 //!
-//! The theorem is on the two exports: what they return and leave in the caller's memory is what `mir_call::call_top` and
-//! `mir_call::call_tables` promise.
+//! The theorem is on the two exports: what they return and leave in the caller's memory is what `mir_call::call_top`
+//! and `mir_call::call_tables` promise.
 #![tactic(auto)]
 
 ghost use Rattle.std.specs.Prelude.{◌≡◌, ◌≢◌};
@@ -11,8 +11,8 @@ ghost use Rattle.mir_call.specs.Answers.{HasAnswered, IsAnswer, IsTableAnswer};
 use mir_call::{CallAnswer, call_tables, call_top};
 use std::alloc::Global;
 
-/// Does what the words ask with this text. It returns the status, and puts the output and the line of complaint into the
-/// rooms, as much of each as fits, and their full lengths behind `out_length` and `line_length`.
+/// Does what the words ask with this text. It returns the status, and puts the output and the line of complaint into
+/// the rooms, as much of each as fits, and their full lengths behind `out_length` and `line_length`.
 #[unsafe(no_mangle)]
 pub extern "C" fn mir_call(
     alloc: Global,

@@ -11,10 +11,10 @@ use mir_table::tables;
 use mir_top::complain_of_memory;
 use std::alloc::Global;
 
-/// Puts the tables that the words ask for of the program of this text into `out`, and the line of complaint into `line`,
-/// as much of each as fits. The words are each ended by a zero byte; where the bytes spell none, it does what is done
-/// for a word that asks for no tables. The status is that of `tables`; 6 never comes, and 7 says that there was no
-/// memory to keep the output.
+/// Puts the tables that the words ask for of the program of this text into `out`, and the line of complaint into
+/// `line`, as much of each as fits. The words are each ended by a zero byte; where the bytes spell none, it does what
+/// is done for a word that asks for no tables. The status is that of `tables`; 6 never comes, and 7 says that there was
+/// no memory to keep the output.
 pub fn call_tables(
     alloc: Global,
     words: &[u8],

@@ -11,8 +11,8 @@ use mir_top::{complain_of_memory, top};
 use std::alloc::Global;
 
 /// Does what the words ask with this text, and puts the output and the line of complaint into the rooms, as much of
-/// each as fits. The words are each ended by a zero byte; where the bytes spell none, it does what is done for no words.
-/// The status is that of `top`; 6 never comes, and 7 says that there was no memory to keep the output.
+/// each as fits. The words are each ended by a zero byte; where the bytes spell none, it does what is done for no
+/// words. The status is that of `top`; 6 never comes, and 7 says that there was no memory to keep the output.
 pub fn call_top(
     alloc: Global,
     words: &[u8],

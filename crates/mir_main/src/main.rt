@@ -3,11 +3,11 @@
 //! out and with status 1 otherwise.
 //!
 //! The theorem is on `status`: the status is that of a call with these words of which all promises of `top` hold, and
-//! whose source and sinks began with what std says of the three streams, without a fault; it is 1 where the words are of
-//! no command, and at most 8. That there is such a call is said, and not that it was made on these streams: a body that
-//! answers 1 to words of no command and 8 to all others meets the clauses too, and the structure of `status`, with the
-//! tests, shows that it is not so. No clause says that these are the words of the command line and the streams of the
-//! process, since std tells nothing of the bytes of a process; nor that `main` ends with the status.
+//! whose source and sinks began with what std says of the three streams, without a fault; it is 1 where the words are
+//! of no command, and at most 8. That there is such a call is said, and not that it was made on these streams: a body
+//! that answers 1 to words of no command and 8 to all others meets the clauses too, and the structure of `status`, with
+//! the tests, shows that it is not so. No clause says that these are the words of the command line and the streams of
+//! the process, since std tells nothing of the bytes of a process; nor that `main` ends with the status.
 #![tactic(auto)]
 
 ghost use Rattle.std.specs.Prelude.{◌≡◌, ◌≢◌, ◌≤◌, None};

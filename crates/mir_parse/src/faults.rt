@@ -6,10 +6,11 @@ use thiserror::Error;
 /// Why tokens spell no raw program.
 #[derive(Debug, Drop, Error)]
 pub enum ParseFault {
-    /// The line of the first token that makes the tokens up to it no prefix of any text of the grammar.
+    /// The line, counted from 1, of the first token that cannot stand where it stands: no text of the grammar begins
+    /// with the tokens up to it.
     #[error("line {0}: unexpected")]
     Unexpected(usize),
-    /// There is no such token, and the tokens end inside a unit or a global line.
+    /// Each token can stand where it stands, but the tokens end inside a unit or a global line.
     #[error("text ends inside a unit")]
     Unfinished,
     /// There is not enough memory.
@@ -20,10 +21,10 @@ pub enum ParseFault {
 /// Why a text spells no raw program.
 #[derive(Debug, Drop, Error)]
 pub enum TextFault {
-    /// It has no tokens.
+    /// Its bytes are no tokens, for this reason of `mir_lex`.
     #[error(transparent)]
     Lex(LexFault),
-    /// Its tokens spell none.
+    /// Its tokens spell no raw program, for this reason.
     #[error(transparent)]
     Parse(ParseFault),
 }

@@ -13,9 +13,9 @@ use std::mem;
 
 /// The raw program that the tokens spell by the grammar of `specs/Grammar.antt`.
 ///
-/// It refuses with `Unexpected(line)` where some token makes the tokens up to it no prefix of a text of the grammar,
-/// with the line of the first such token, and with `Unfinished` where there is no such token and the tokens end inside
-/// a unit or a global line. It also fails when it runs out of memory.
+/// It refuses with `Unexpected(line)` where some token cannot stand where it stands, since no text of the grammar
+/// begins with the tokens up to it; `line` is that of the first such token. It refuses with `Unfinished` where there is
+/// no such token and the tokens end inside a unit or a global line. It also fails when it runs out of memory.
 pub fn parse(alloc: Global, tokens: &Tokens) -> Result<Raw, ParseFault>
     // The raw program is spelled by the tokens, and one that is spelled is not refused, unless memory runs out.
     ensures found { IfOk result (λ raw. IsText (terminals_of tokens.now) raw) }
@@ -51,8 +51,8 @@ pub fn parse(alloc: Global, tokens: &Tokens) -> Result<Raw, ParseFault>
     }
 }
 
-// The state behind the last token, or behind the first one that cannot stand where it stands. It fails only with
-// `Memory`.
+// The state of the reader after the last token, or after the first one that cannot stand where it stands. It fails only
+// with `Memory`.
 fn read(alloc: Global, tokens: &Tokens) -> Result<ReadSoFar, Memory>
     ensures { IfOk result (λ state. state ≡ reads (terminals_of tokens.now)) }
 {

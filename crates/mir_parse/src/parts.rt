@@ -1,7 +1,7 @@
-// What a token makes of a part of an instruction: `part_step` is called once for each token, and a function for each
-// place in an instruction says which tokens may stand there and what the part then is. A part is large, so it is changed
-// where it stands and not handed on. `mem::replace` puts one in the place of another, since what an assignment drops
-// costs the reader a sixth of its time.
+// The parser inside an instruction: `part_step` is called once for each token, and for each place in an instruction a
+// function says which tokens may stand there and what has then been read. A `Part` is large, so it is changed in place
+// and not moved. `mem::replace` puts one in the place of another: a plain assignment would drop the old one each time,
+// which takes a sixth of the time of the parser.
 ghost use Rattle.std.specs.Prelude.{◌≡◌, IfOk};
 ghost use Rattle.mir_parse.specs.Reader.{PartBecomes, relop_of_mark, op_of_mark, op_of_word, filled, wants, mark_then, name_then, fresh, first_part, next_by, receive_word, named, arrowed, binary_with, plain_name, plain_number, call_word, first_arg, typed, goto_word, if_word, rel_with, if_operand, tested, if_goto, if_trap, return_word, full, part_step};
 
@@ -111,7 +111,7 @@ fn go_to(part: &mut Part, next: Part) -> Progress
     Progress::Goes
 }
 
-// The part is this name, which is a label.
+// The part is this name, which is that of a label, and is whole.
 fn label(part: &mut Part, name: Name) -> Progress
     ensures progress { result ≡ Progress.Ends }
     ensures part { part.new ≡ Part.Named name }

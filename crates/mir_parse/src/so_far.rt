@@ -1,8 +1,8 @@
-// What was read so far: the parser is one step for each token, which never goes back.
+// The state of the parser: what was read so far. The parser makes one step for each token and never goes back.
 use crate::{Raw, RawForm, RawGlobal, RawOperand, RawTest, RawUnit};
 use mir_base::{Items, Name, Op, RelOp, UnOp};
 
-/// A place of an instruction where only an operand may stand, with what was read before it.
+/// A place in an instruction where only an operand may stand, with what of the instruction was read before it.
 #[derive(Drop)]
 pub enum Hole {
     /// `x <- -` or `x <- !`
@@ -74,7 +74,7 @@ pub enum Part {
     Full(RawForm),
 }
 
-/// Where the reader is in a unit.
+/// Where in a unit the parser is.
 #[derive(Drop)]
 pub enum Spot {
     /// Behind its name.
@@ -111,7 +111,7 @@ pub enum ReadSoFar {
     Stopped(usize),
 }
 
-/// What a token makes of the unit or of the part of an instruction that is read, which it changes where it stands.
+/// What a token does to the unit, or to the part of an instruction, that is being read; it is changed in place.
 #[derive(Clone, Copy, Debug, PartialEq, Eq)]
 pub enum Progress {
     /// It goes on.

@@ -1,5 +1,5 @@
-// What a token makes of the units that were read: `step` is called once for each token. `at` is the line of the token,
-// and `line` that of an instruction that began before it.
+// The parser outside instructions: `step` is called once for each token. In all functions `at` is the line of the
+// token, and `line` that of a global line or an instruction that began before it.
 ghost use Rattle.std.specs.Prelude.{◌≡◌, [], IfOk, OnOk};
 ghost use Rattle.mir_parse.specs.RawParts.{globals_alone};
 ghost use Rattle.mir_parse.specs.Reader.{AfterPart, Progresses, ProgressesEach, state_progressed, unit_progressed, global_word, outside, in_global, unit_named, headed, begun, inside, after_end, spot_step, read_step};

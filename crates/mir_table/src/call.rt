@@ -16,8 +16,8 @@ use std::alloc::Global;
 
 /// Writes the tables of the program that is read from the source to `out`, and answers the status. The words are none,
 /// or one that says which tables: `optimise`, as where there is none, `divisions`, `tails`, `join`, `bounds`, `wanted`
-/// or `demanded`; with other words it writes how to call it to `err`, and reads nothing. Where something fails, one line
-/// goes to `err`, with the status that `mir` has for it.
+/// or `demanded`; with other words it writes how to call it to `err`, and reads nothing. Where something fails, one
+/// line goes to `err`, with the status that `mir` has for it.
 ///
 /// All of the output is made before anything is written, and once writing has begun nothing is allocated.
 pub fn tables<S: Source, K: Sink, E: Sink>(

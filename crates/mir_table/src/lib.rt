@@ -5,8 +5,8 @@
 //! The text is read, and all passes or the motion of divisions are made, by `mir_top::top`: its reply has the trail. So
 //! what a text means, which texts are refused, and with which status and line, is the same as under `mir optimise`.
 //!
-//! The theorem is on `tables`: what is written is the text of the tables that the words ask for, of the program that was
-//! read, and every other status has its cause.
+//! The theorem is on `tables`: what is written is the text of the tables that the words ask for, of the program that
+//! was read, and every other status has its cause.
 #![tactic(auto)]
 
 mod call;

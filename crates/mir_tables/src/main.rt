@@ -2,10 +2,11 @@
 //! and ends with the status that this answers. Where it cannot get the words it writes nothing, and ends with status 8
 //! if memory ran out and with status 1 otherwise.
 //!
-//! The theorem is on `status`: the status is that of a call with these words of which all promises of `tables` hold, and
-//! whose source and sinks began with what std says of the three streams, without a fault; it is 1 where the words ask for
-//! no tables, and at most 8. That there is such a call is said, and not that it was made on these streams. No clause says
-//! that these are the words of the command line and the streams of the process, nor that `main` ends with the status.
+//! The theorem is on `status`: the status is that of a call with these words of which all promises of `tables` hold,
+//! and whose source and sinks began with what std says of the three streams, without a fault; it is 1 where the words
+//! ask for no tables, and at most 8. That there is such a call is said, and not that it was made on these streams. No
+//! clause says that these are the words of the command line and the streams of the process, nor that `main` ends with
+//! the status.
 #![tactic(auto)]
 
 ghost use Rattle.std.specs.Prelude.{◌≡◌, ◌≤◌, None};

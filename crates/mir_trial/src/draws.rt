@@ -1,11 +1,11 @@
-// The numbers that are drawn.
+// Pseudorandom numbers: each draw steps a 64-bit state, and takes a number from its upper bits.
 ghost use Rattle.std.specs.Prelude.{◌≡◌, ◌<◌};
 ghost use Rattle.mir_trial.specs.Draws.{drawn, next};
 
-/// The state that the numbers are drawn from.
+/// The state from which numbers are drawn. The same state gives the same numbers on every machine.
 #[derive(Drop)]
 pub struct Draws {
-    /// The number that the last draw left here; before the first draw, the number of the trial.
+    /// The state that the last draw left; before the first draw, the number of the trial program.
     pub state: u64,
 }
 
@@ -22,7 +22,7 @@ impl Draws {
     }
 }
 
-/// The state after one more draw.
+/// The state after one more draw: a linear congruential step, modulo 2^64.
 fn next(state: u64) -> u64
     ensures { result ≡ next state }
 {
@@ -31,7 +31,7 @@ fn next(state: u64) -> u64
         .wrapping_add(1_442_695_040_888_963_407)
 }
 
-/// The number below `k` that is drawn where the draw makes this state.
+/// The number below `k` that is drawn when a draw has left this state: its upper 31 bits, modulo `k`.
 fn drawn(state: u64, k: u64) -> u64
     requires { 0 < k }
     ensures value { result ≡ drawn k state }

@@ -1,4 +1,4 @@
-// Groups of instructions.
+// Groups of instructions, of which the bodies of trial programs are made: an operation, a branch, a loop or a print.
 ghost use Rattle.std.specs.Prelude.{◌≡◌, ◌+◌, ◌<◌, ◌++◌, length, OnOk};
 ghost use Rattle.mir_trial.specs.Trial.{branch_group, group, group_of, groups, loop_group, operation, operator_of, plain_group, print_group, parameter, parameter_sum, variable};
 ghost use Rattle.mir_trial.specs.Draws.{next};
@@ -6,10 +6,10 @@ ghost use Rattle.mir_trial.specs.Draws.{next};
 use crate::draws::Draws;
 use mir_base::{Inst, Memory, Op, Operand, RelOp, Rhs, Test};
 
-/// The number of `c`, which counts the turns of a loop.
+/// The number of the variable `c`, in which a loop counts its turns.
 const COUNTER: usize = 8;
 
-/// Adds so many groups at the end of the body.
+/// Draws so many groups and adds them at the end of the body. It fails only with `Memory`.
 pub fn push_groups(body: &mut Vec<Inst>, draws: &mut Draws, count: usize) -> Result<(), Memory>
     ensures insts { OnOk result (body.new.items
         ≡ body.old.items ++ (groups count (length body.old.items) draws.old.state).insts) }
@@ -22,7 +22,7 @@ pub fn push_groups(body: &mut Vec<Inst>, draws: &mut Draws, count: usize) -> Res
     Ok(())
 }
 
-/// Adds a group at the end of the body.
+/// Draws a group and adds it at the end of the body.
 fn push_group(body: &mut Vec<Inst>, draws: &mut Draws) -> Result<(), Memory>
     ensures insts { OnOk result (body.new.items
         ≡ body.old.items ++ (group (length body.old.items) draws.old.state).insts) }
@@ -33,7 +33,7 @@ fn push_group(body: &mut Vec<Inst>, draws: &mut Draws) -> Result<(), Memory>
     push_group_of(body, draws, kind)
 }
 
-/// Adds the group of this kind at the end of the body.
+/// Draws a group of this kind and adds it at the end of the body: 0 is an operation, 1 a branch, 2 a loop, 3 a print.
 fn push_group_of(body: &mut Vec<Inst>, draws: &mut Draws, kind: u64) -> Result<(), Memory>
     ensures insts { OnOk result (body.new.items
         ≡ body.old.items ++ (group_of kind (length body.old.items) draws.old.state).insts) }
@@ -51,7 +51,7 @@ fn push_group_of(body: &mut Vec<Inst>, draws: &mut Draws, kind: u64) -> Result<(
     }
 }
 
-/// Adds an operation at the end of the body.
+/// Draws an operation and adds it at the end of the body.
 fn push_plain(body: &mut Vec<Inst>, draws: &mut Draws) -> Result<(), Memory>
     ensures insts { OnOk result (body.new.items
         ≡ body.old.items ++ (plain_group draws.old.state).insts) }
@@ -61,7 +61,7 @@ fn push_plain(body: &mut Vec<Inst>, draws: &mut Draws) -> Result<(), Memory>
     Ok(())
 }
 
-/// `V <- P o Q`.
+/// Draws `V <- P o Q`, where V is one of `v0` to `v5`, P and Q are `a` or `b`, and o is one of eight operators.
 fn operation(draws: &mut Draws) -> Inst
     ensures value { result ≡ operation draws.old.state }
     ensures state { draws.new.state ≡ next (next (next (next draws.old.state))) }
@@ -73,7 +73,7 @@ fn operation(draws: &mut Draws) -> Inst
     Inst::Assign(variable, Rhs::Binary(operator, left, right))
 }
 
-/// A variable from `v0` to `v5`.
+/// Draws a variable from `v0` to `v5`.
 fn variable(draws: &mut Draws) -> usize
     ensures value { result ≡ variable (next draws.old.state) }
     ensures state { draws.new.state ≡ next draws.old.state }
@@ -81,7 +81,7 @@ fn variable(draws: &mut Draws) -> usize
     draws.draw(6) as usize + 2
 }
 
-/// `a` or `b`.
+/// Draws `a` or `b`, the variables that receive the arguments.
 fn parameter(draws: &mut Draws) -> Operand
     ensures value { result ≡ parameter (next draws.old.state) }
     ensures state { draws.new.state ≡ next draws.old.state }
@@ -89,7 +89,7 @@ fn parameter(draws: &mut Draws) -> Operand
     Operand::Var(draws.draw(2) as usize)
 }
 
-/// The operator of a number below 8.
+/// The operator that a number below 8 stands for. None of them divides.
 fn operator(number: u64) -> Op
     ensures { result ≡ operator_of number }
 {
@@ -105,7 +105,7 @@ fn operator(number: u64) -> Op
     }
 }
 
-/// Adds a test that skips one of two sums.
+/// Draws a branch and adds it at the end of the body: two sums of `a` and `b`, of which a test may skip the first.
 fn push_branch(body: &mut Vec<Inst>, draws: &mut Draws) -> Result<(), Memory>
     ensures insts { OnOk result (body.new.items
         ≡ body.old.items ++ (branch_group (length body.old.items) draws.old.state).insts) }
@@ -122,14 +122,14 @@ fn push_branch(body: &mut Vec<Inst>, draws: &mut Draws) -> Result<(), Memory>
     Ok(())
 }
 
-/// `a + b`.
+/// The right side `a + b`.
 fn parameter_sum() -> Rhs
     ensures { result ≡ parameter_sum }
 {
     Rhs::Binary(Op::Add, Operand::Var(0), Operand::Var(1))
 }
 
-/// Adds a loop of four turns over one operation.
+/// Draws a loop and adds it at the end of the body: four turns of one operation, counted in `c`.
 fn push_loop(body: &mut Vec<Inst>, draws: &mut Draws) -> Result<(), Memory>
     ensures insts { OnOk result (body.new.items
         ≡ body.old.items ++ (loop_group (length body.old.items) draws.old.state).insts) }
@@ -146,7 +146,7 @@ fn push_loop(body: &mut Vec<Inst>, draws: &mut Draws) -> Result<(), Memory>
     Ok(())
 }
 
-/// Adds the print of a variable.
+/// Draws a variable and adds its print at the end of the body.
 fn push_print(body: &mut Vec<Inst>, draws: &mut Draws) -> Result<(), Memory>
     ensures insts { OnOk result (body.new.items
         ≡ body.old.items ++ (print_group draws.old.state).insts) }

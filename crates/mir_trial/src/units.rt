@@ -13,11 +13,12 @@ use flow_graph::tidied;
 use mir_base::{Args, Inst, Items, Memory, Name, Operand, Program, Unit as MirUnit};
 use std::alloc::Global;
 
-/// The number of groups of a unit.
+/// How many groups of instructions a unit has.
 const GROUPS: usize = 60;
 
-/// The program of a number with so many units. It is valid, each of its units has at most 245 instructions, and calls
-/// the next one alone. It fails only with `Memory`.
+/// The trial program of this number, the seed of all that is drawn, with `count` units. It is valid, and takes two
+/// inputs. Each of its units has at most 245 instructions, and calls no unit but the next one. It fails only with
+/// `Memory`.
 pub fn trial_program(alloc: Global, number: u64, count: usize) -> Result<Program, Memory>
     requires some { 0 < count }
     requires few { count ≤ most_units }
@@ -40,8 +41,8 @@ pub fn trial_program(alloc: Global, number: u64, count: usize) -> Result<Program
     })
 }
 
-/// Unit number `number` of the trial program, whose parts are drawn from this state on. Unless it is the last, it calls
-/// the next unit. It fails only with `Memory`.
+/// The unit of this number, counted from 0, of a trial program; its groups are drawn from the state `draws`. Unless it
+/// is the last one, it calls the next unit. It fails only with `Memory`.
 fn unit(
     alloc: Global,
     draws: &mut Draws,
@@ -60,7 +61,7 @@ fn unit(
     Ok(unit)
 }
 
-/// The names of the variables.
+/// The names of the variables of a unit, by number.
 #[tactic(auto, using(crate::proofs::Spelled::is_unreserved))]
 fn variables(alloc: Global) -> Result<Vec<Name>, Memory>
     ensures { IfOk result (λ names. names.items ≡ variables) }
@@ -78,7 +79,7 @@ fn variables(alloc: Global) -> Result<Vec<Name>, Memory>
     Ok(names)
 }
 
-/// The name of these bytes.
+/// The name of these bytes, which are spelled as one.
 fn named(alloc: Global, bytes: &[u8]) -> Result<Name, Memory>
     requires { IsName bytes.now }
     ensures { IfOk result (λ name. name ≡ bytes.now) }

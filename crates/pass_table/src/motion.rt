@@ -117,8 +117,8 @@ fn place_rows(alloc: Global, unit: &UnitTrail, edges: &Edges) -> Result<PlaceRow
     })
 }
 
-/// On which edges the temporaries of a unit live under the busy placement, beside the rows of it, which make a placement
-/// for as long as this is worked out. The edges are those of the split graph.
+/// On which edges the temporaries of a unit live under the busy placement, beside the rows of it, which make a
+/// placement for as long as this is worked out. The edges are those of the split graph.
 fn busy_ranges(
     alloc: Global,
     unit: &UnitTrail,

@@ -16,8 +16,8 @@ use mir_base::Memory;
 use std::alloc::Global;
 use std::sync::ledger::Ledger;
 
-/// The row of each node: at bit b, whether the statement of the problem holds there of bit b. The rows have as many bits
-/// as the rows of births. Where it fails the counter has not risen.
+/// The row of each node: at bit b, whether the statement of the problem holds there of bit b. The rows have as many
+/// bits as the rows of births. Where it fails the counter has not risen.
 pub(crate) fn answers<L: Ledger>(
     alloc: Global,
     problem: &Problem<'_>,

@@ -1,5 +1,5 @@
-// Rows that are turned into columns of words, so that one bit of all of them is at hand. Each function that makes them
-// fails only with `Memory`.
+// Bit rows that are transposed into columns of words, so that one bit of all rows can be written at once. Each function
+// that makes columns fails only with `Memory`.
 ghost use Rattle.std.specs.Prelude.{◌≡◌, ℕ, ◌+◌, ◌*◌, ◌%◌, ◌<◌, ◌≤◌, IfOk, OnOk, length, slice_index, slice_range};
 ghost use Rattle.bit_rows.specs.Bits.{row_bit, row_of};
 ghost use Rattle.table_text.specs.Columns.{AddsColumn, AreColumns, IsWordOf, word_bit};
@@ -10,11 +10,11 @@ use mir_base::Memory;
 use std::alloc::{AllocError, Global};
 use std::marker::Model;
 
-/// Rows of truth values, all equally long, for writing one bit of all of them after the other. Contracts see them as
-/// the list of the rows that they were made of.
+/// Rows of bits, all equally long, transposed so that one bit of all of them is written after the other. Contracts see
+/// them as the list of the rows of which they were made.
 ///
-/// They are kept in words of 16 bits, column after column: word `k` of row `n` stands at `k * rows + n`. The narrower
-/// the words, the more of them are written at once, and the more of them are to be turned.
+/// They are kept in words of 16 bits, column after column: bits `16 * k` to `16 * k + 15` of row `n` stand in the word
+/// at `k * rows + n`. With narrower words one machine instruction writes more of them, but there are more to transpose.
 #[derive(Drop)]
 pub struct Columns {
     rows: usize,
@@ -34,8 +34,7 @@ impl Model for Columns {
 }
 
 impl Columns {
-    /// The rows in columns. It fails only with `Memory`. It is not drawn into those that call it, so that what it takes
-    /// is counted by itself.
+    /// The rows in columns. It fails only with `Memory`. It is never inlined, so that a profile shows its own cost.
     #[inline(never)]
     pub fn of(alloc: Global, rows: &Rows) -> Result<Columns, Memory>
         ensures { IfOk result (λ made. made ≡ rows.now) }
@@ -49,7 +48,8 @@ impl Columns {
         })
     }
 
-    /// A word of each row, in which the bit of this number is number `bit` % 16. It does not allocate.
+    /// For each row the word that holds the bit of this number, as bit `bit` % 16, counted from the lowest. It does not
+    /// allocate.
     pub(crate) fn column(&self, bit: usize) -> &[u16]
         requires { HaveBit self.now bit }
         ensures len { length result.now ≡ length self.now }
@@ -60,7 +60,7 @@ impl Columns {
     }
 }
 
-/// The words of the column of this number, where each has so many.
+/// The words of the column of this number, where a column has `rows` words.
 fn column_words(words: &[u16], rows: usize, number: usize) -> &[u16]
     requires { number * rows + rows ≤ length words.now }
     ensures { result.now ≡ slice_range words.now (number * rows) (number * rows + rows) }
@@ -69,7 +69,7 @@ fn column_words(words: &[u16], rows: usize, number: usize) -> &[u16]
     &words[at..at + rows]
 }
 
-/// The first so many columns of the rows, one behind the other.
+/// The first `count` columns of the rows, one after the other.
 fn all_columns(alloc: Global, rows: &Rows, count: usize) -> Result<Vec<u16>, Memory>
     requires { (n : ℕ) → n < length rows.now → 16 * count < length (row_of rows.now n) + 16 }
     ensures { IfOk result (λ made. AreColumns rows.now count made.items) }
@@ -84,7 +84,7 @@ fn all_columns(alloc: Global, rows: &Rows, count: usize) -> Result<Vec<u16>, Mem
     Ok(words)
 }
 
-/// Puts the column of this number at the end.
+/// Appends the column of this number.
 fn push_column(words: &mut Vec<u16>, rows: &Rows, number: usize) -> Result<(), Memory>
     requires { (n : ℕ) → n < length rows.now → 16 * number < length (row_of rows.now n) }
     ensures { OnOk result (AddsColumn rows.now number (length rows.now)
@@ -96,7 +96,7 @@ fn push_column(words: &mut Vec<u16>, rows: &Rows, number: usize) -> Result<(), M
     Ok(())
 }
 
-/// The bits of a row that stand in the column of this number.
+/// The word of a row in the column of this number: the bits from `16 * number` on.
 #[inline(always)]
 fn row_word(rows: &Rows, row: usize, number: usize) -> u16
     requires row { row < length rows.now }
@@ -106,7 +106,7 @@ fn row_word(rows: &Rows, row: usize, number: usize) -> u16
     word_part(rows.row(row).word(number / 4), number % 4)
 }
 
-/// A quarter of a word, of which that of number 0 has the lowest bits.
+/// A quarter of a 64-bit word, by number; that of number 0 has the lowest 16 bits.
 #[inline(always)]
 fn word_part(word: u64, part: usize) -> u16
     requires { part < 4 }

@@ -1,4 +1,4 @@
-// Words of a line, each behind a blank. Each function fails only with `Memory`.
+// Fields of a line: words and numbers, each behind a blank. Each function appends, and fails only with `Memory`.
 ghost use Rattle.std.specs.Prelude.{decimal, flat_map};
 ghost use Rattle.mir_base.specs.Appending.{AppendsOnOk};
 ghost use Rattle.table_text.specs.Lines.{field};
@@ -6,7 +6,7 @@ ghost use Rattle.table_text.specs.Lines.{field};
 use mir_base::{Memory, Name};
 use mir_print::put_number;
 
-/// A word behind a blank.
+/// Appends a blank and this word.
 pub fn put_field(text: &mut Vec<u8>, word: &[u8]) -> Result<(), Memory>
     ensures { AppendsOnOk result text.old text.new (field word.now) }
 {
@@ -14,7 +14,7 @@ pub fn put_field(text: &mut Vec<u8>, word: &[u8]) -> Result<(), Memory>
     text.extend_from_slice(word)
 }
 
-/// A number behind a blank.
+/// Appends a blank and this number in decimal.
 pub fn put_count(text: &mut Vec<u8>, number: usize) -> Result<(), Memory>
     ensures { AppendsOnOk result text.old text.new (field (decimal number)) }
 {
@@ -22,7 +22,7 @@ pub fn put_count(text: &mut Vec<u8>, number: usize) -> Result<(), Memory>
     put_number(text, number)
 }
 
-/// Each of these names behind a blank.
+/// Appends these names, a blank before each.
 pub(crate) fn put_names(text: &mut Vec<u8>, names: &[Name]) -> Result<(), Memory>
     ensures { AppendsOnOk result text.old text.new (flat_map field names.now) }
 {

@@ -1,4 +1,4 @@
-// The lines of a graph. Each function fails only with `Memory`.
+// The lines of a graph. Each function appends what it names, and fails only with `Memory`.
 ghost use Rattle.std.specs.Prelude.{flat_map};
 ghost use Rattle.mir_base.specs.Appending.{AppendsOnOk};
 ghost use Rattle.table_text.specs.Lines.{name_field, unit_line, names_of_units};
@@ -31,7 +31,7 @@ pub fn put_graph(text: &mut Vec<u8>, units: &[MirUnit], graph: &Graph) -> Result
     put_nodes(text, units, graph)
 }
 
-/// The same behind the name of its stage.
+/// The name of a stage of a pass, and behind it the lines of the graph that the pass has at this stage.
 pub fn put_stage(
     text: &mut Vec<u8>,
     units: &[MirUnit],

@@ -1,4 +1,4 @@
-// The line of a node. Each function fails only with `Memory`.
+// The line of a node. Each function appends what it names, and fails only with `Memory`.
 ghost use Rattle.std.specs.Prelude.{codes, ◌++◌, decimal};
 ghost use Rattle.mir_base.specs.Appending.{AppendsOnOk};
 ghost use Rattle.table_text.specs.Lines.{field, names_of_units};
@@ -72,14 +72,14 @@ fn put_node_text(
     }
 }
 
-/// The word of a return, which leads nowhere.
+/// The word of a Return, which has no successor.
 fn put_way_out(text: &mut Vec<u8>) -> Result<(), Memory>
     ensures { AppendsOnOk result text.old text.new (codes " return -") }
 {
     text.extend_from_slice(b" return -")
 }
 
-/// A word, and the only successor.
+/// The word of a kind of node that has one successor, and the number of this.
 fn put_kind(text: &mut Vec<u8>, kind: &[u8], next: usize) -> Result<(), Memory>
     ensures { AppendsOnOk result text.old text.new (kind.now ++ field (decimal next)) }
 {
@@ -87,7 +87,7 @@ fn put_kind(text: &mut Vec<u8>, kind: &[u8], next: usize) -> Result<(), Memory>
     put_count(text, next)
 }
 
-/// A test, and its two successors.
+/// The word of a Test, and the numbers of its two successors.
 fn put_ways(text: &mut Vec<u8>, taken: usize, other: usize) -> Result<(), Memory>
     ensures { AppendsOnOk result text.old text.new (ways_text taken other) }
 {

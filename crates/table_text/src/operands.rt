@@ -1,5 +1,5 @@
-// The text of names, operands and right sides over the variables of a graph. Each function fails only with
-// `Memory`.
+// The text of names, operands and right sides over the variables of a graph. Each function appends what it names, and
+// fails only with `Memory`.
 ghost use Rattle.std.specs.Prelude.{[], slice_index_or};
 ghost use Rattle.mir_base.specs.Appending.{AppendsOnOk};
 ghost use Rattle.mir_base.specs.Text.{operand_text, rhs_text};

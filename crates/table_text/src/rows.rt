@@ -1,4 +1,5 @@
-// The lines of rows: one bit of all rows, the first row first. Each function fails only with `Memory`.
+// The lines of bit rows: one bit of all rows, as `0` and `1`, the first row first. Each function appends what it names,
+// and fails only with `Memory`.
 ghost use Rattle.std.specs.Prelude.{◌≡◌, ◌+◌, ◌<◌, ◌++◌, codes, length, take};
 ghost use Rattle.mir_base.specs.Appending.{AppendsOnOk};
 ghost use Rattle.table_text.specs.Columns.{column_below, word_bit};
@@ -18,7 +19,7 @@ pub fn put_bits(text: &mut Vec<u8>, lines: &Columns, bit: usize, title: &[u8]) -
     put_title(text, title)
 }
 
-/// The same where a row stands for an edge.
+/// The same line where a row stands for an edge.
 pub fn put_edge_bits(
     text: &mut Vec<u8>,
     lines: &Columns,
@@ -33,8 +34,7 @@ pub fn put_edge_bits(
     put_title(text, title)
 }
 
-/// The bit of this number of all rows. It is not drawn into those that call it, so that what it takes is counted by
-/// itself.
+/// The bit of this number of all rows. It is never inlined, so that a profile shows its own cost.
 #[inline(never)]
 fn put_each(text: &mut Vec<u8>, lines: &Columns, bit: usize) -> Result<(), Memory>
     requires { HaveBit lines.now bit }
@@ -59,7 +59,7 @@ fn put_column(text: &mut Vec<u8>, column: &[u16], bit: usize) -> Result<(), Memo
     Ok(())
 }
 
-/// Writes the bit of this number of all words of a column over the bytes from a place on.
+/// Writes the bit of this number of all words of a column over the bytes from number `start` on.
 #[inline(always)]
 fn write_bits(bytes: &mut [u8], start: usize, column: &[u16], bit: usize)
     requires bit { bit < 16 }

@@ -1,4 +1,5 @@
-// The graphs of a unit on its way through a pass, and what is told between them. Each function fails only with `Memory`.
+// The graphs of a unit on its way through a pass, and what the pass finds out between them. Each function fails only
+// with `Memory`.
 ghost use Rattle.std.specs.Prelude.{◌≡◌, ◌<◌, ℕ, List, IfOk, OnOk, length};
 ghost use Rattle.mir_base.specs.Appending.{AppendsOnOk};
 ghost use Rattle.mir_base.specs.Shapes.{UnitShape};
@@ -15,8 +16,9 @@ use mir_base::{Memory, Program, Unit as MirUnit};
 use program_pass::PassSteps;
 use std::alloc::Global;
 
-/// A pass over the units of a program, with what it finds out of a graph with clean jumps: `exact` says which graph it
-/// makes of that of the unit of a number, and `finds` which text tells of this graph what is found out.
+/// A pass over the units of a program, and the text of what it finds out about the graph of a unit: `exact` says which
+/// graph the pass makes of the graph with clean jumps of the unit of a number, and `finds` which text tells what it
+/// finds out about that graph.
 pub trait PassTable {
     ghost exact: { Self → ℕ → GraphShape → GraphShape → Type 0 };
 
@@ -27,8 +29,8 @@ pub trait PassTable {
         requires { number < length program.now.units }
         ensures { IfOk result (AreStepsAt (exact self.now) program.now.units number) };
 
-    /// Appends what is found out of this graph with clean jumps, that of the unit of this number. It fails only with
-    /// `Memory`.
+    /// Appends what the pass finds out about this graph, which is that of the unit of this number with clean jumps. It
+    /// fails only with `Memory`.
     fn put_found(
         &self,
         alloc: Global,
@@ -98,7 +100,8 @@ impl<T: PassTable> Pieces for PassUnits<'_, T> {
     }
 }
 
-/// Appends the graphs of the unit of this number, and what is found out of the one with clean jumps, among these units.
+/// Appends the graphs of the unit of this number, and what the pass finds out about the one with clean jumps. `units`
+/// are those of the program, which calls name.
 fn put_steps<T: PassTable>(
     alloc: Global,
     text: &mut Vec<u8>,

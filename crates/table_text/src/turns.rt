@@ -1,12 +1,12 @@
-// Texts that are written one after the other, by their numbers. Each function fails only with `Memory`.
+// Texts that have numbers and are written in this order. Each function fails only with `Memory`.
 ghost use Rattle.std.specs.Prelude.{◌≡◌, ◌<◌, ℕ, List, IfOk, OnOk};
 ghost use Rattle.table_text.specs.Turns.{AppendsSome, InTurn, IsTableText};
 
 use mir_base::Memory;
 use std::alloc::Global;
 
-/// Texts by their numbers, from 0 on: `count` says how many there are, and `is_piece` which text is that of a number;
-/// `holds` is what is known of them all.
+/// Texts that are written one after the other, each known by its number, from 0 on. For contracts `count` says how many
+/// there are, `is_piece` which text is that of a number, and `holds` what is known of them all.
 pub trait Pieces {
     ghost count: { Self → ℕ };
 
@@ -37,7 +37,7 @@ pub fn put_in_turn<P: Pieces>(alloc: Global, text: &mut Vec<u8>, pieces: &P) -> 
     Ok(())
 }
 
-/// A line, and behind it all of these texts.
+/// The text of this line and, behind it, of all these texts.
 pub fn text_in_turn<P: Pieces>(alloc: Global, line: &[u8], pieces: &P) -> Result<Vec<u8>, Memory>
     requires { P.holds pieces.now }
     ensures { IfOk result (λ text. IsTableText line.now (P.is_piece pieces.now) (P.count pieces.now)

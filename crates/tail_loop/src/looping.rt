@@ -11,8 +11,8 @@ use mir_base::{Memory, Operand};
 use program_pass::{Put, copied_nodes, marks_of, plain_put, stand, start_succ};
 use std::alloc::{AllocError, Global};
 
-/// The nodes of the graph, with its assignments in the place of each self tail call; new nodes have the next numbers. It
-/// fails only with `Memory`.
+/// The nodes of the graph, with its assignments in the place of each self tail call; new nodes have the next numbers.
+/// It fails only with `Memory`.
 pub(crate) fn looped(
     alloc: Global,
     graph: &Graph,

@@ -1,4 +1,4 @@
-// The calls of leaves.
+// Which nodes of a graph call leaves.
 ghost use Rattle.std.specs.Prelude.{◌≡◌, ◌↔◌, ◌<◌, IfNone, IfOk, IfSome, IsTrue, None, Some, length};
 ghost use Rattle.unit_join.specs.JoinPrograms.{some_unit};
 ghost use Rattle.unit_join.specs.Joins.{AreLeafCalls, IsLeafCall, leaf_at, leaf_called};
@@ -8,7 +8,7 @@ use flow_graph::{Graph, Node};
 use mir_base::Memory;
 use std::alloc::Global;
 
-/// The leaf of the unit of this number, where it is one. It does not allocate.
+/// The graph of the unit of this number, and `None` exactly where the unit is no leaf. It does not allocate.
 pub(crate) fn leaf_at(leaves: &Leaves, unit: usize) -> Option<&Graph>
     ensures none { IfNone result (leaf_at leaves.now.units unit ≡ None) }
     ensures some { IfSome result (λ leaf. leaf_at leaves.now.units unit ≡ Some leaf.now) }
@@ -22,7 +22,7 @@ pub(crate) fn leaf_at(leaves: &Leaves, unit: usize) -> Option<&Graph>
     }
 }
 
-/// The unit that the node calls, where it is a leaf.
+/// The number of the unit that the node calls, and `None` where it calls none or one that is no leaf.
 pub(crate) fn leaf_called(leaves: &Leaves, node: &Node) -> Option<usize>
     ensures unit { some_unit result ≡ leaf_called leaves.now.units node.now }
     ensures within { IfSome result (λ unit. unit < length leaves.now.units) }
@@ -47,7 +47,7 @@ fn calls_leaf(leaves: &Leaves, nodes: &[Node], n: usize) -> bool
     }
 }
 
-/// The nodes that call leaves, in order.
+/// The numbers of the nodes that call leaves, in order.
 pub(crate) fn leaf_calls(
     alloc: Global,
     nodes: &[Node],

@@ -12,20 +12,20 @@ use flow_graph::Node;
 use mir_base::Memory;
 use std::alloc::Global;
 
-/// The leaves that a graph calls, with the numbers of the copies of their variables, which come after its own
-/// variables.
+/// The leaves that a graph calls, with the numbers that the copies of their variables get in it. These come after the
+/// numbers of its own variables: for each leaf a run of numbers, one for each variable that is no global.
 #[derive(Drop)]
 pub(crate) struct CopyTable {
-    /// The units of the leaves, in order of the first node that calls each.
+    /// The numbers of the leaf units, in the order of the first node that calls each.
     pub(crate) units: Vec<usize>,
-    /// For each unit of the program its first copy, where it is one of them.
+    /// For each unit of the program the number of its first copy, and `None` where it is none of these leaves.
     firsts: Vec<Option<usize>>,
-    /// The number after the last copy.
+    /// The number after the last copy: how many variables the graph has with all copies.
     pub(crate) end: usize,
 }
 
 impl CopyTable {
-    /// The leaves that the nodes of a graph with so many variables call.
+    /// The table for the nodes of a graph with `vars` variables.
     pub(crate) fn of(
         alloc: Global,
         nodes: &[Node],
@@ -47,7 +47,7 @@ impl CopyTable {
         Ok(table)
     }
 
-    /// Takes in the unit of a leaf, where there is one and it is not among them.
+    /// Adds this leaf unit, where there is one and the table does not have it yet.
     fn add(&mut self, leaves: &Leaves, unit: Option<usize>) -> Result<(), Memory>
         requires long { length self.old.firsts.items ≡ length leaves.now.units }
         requires within { IfSome unit (λ unit. unit < length leaves.now.units) }
@@ -65,7 +65,7 @@ impl CopyTable {
         }
     }
 
-    /// Puts the unit of a leaf after them.
+    /// Adds a leaf unit that the table does not have, with the next numbers for its copies.
     fn push(&mut self, leaves: &Leaves, unit: usize) -> Result<(), Memory>
         requires { unit < length self.old.firsts.items }
         ensures units { OnOk result (self.new.units.items ≡ self.old.units.items ++ unit ∷ []) }
@@ -81,7 +81,7 @@ impl CopyTable {
         Ok(())
     }
 
-    /// The first copy of a unit.
+    /// The number of the first copy of a leaf unit.
     pub(crate) fn first_copy(&self, unit: usize) -> usize
         requires { unit < length self.now.firsts.items }
         ensures { (leaves : List (Option GraphShape)) (vars : ℕ)
@@ -95,14 +95,14 @@ impl CopyTable {
     }
 }
 
-/// So many entries with nothing in them.
+/// So many times `None`.
 fn none_of(alloc: Global, count: usize) -> Result<Vec<Option<usize>>, Memory>
     ensures { IfOk result (λ entries. entries.items ≡ replicate count None) }
 {
     Ok(vec![in alloc; None; count]?)
 }
 
-/// How many variables the leaf of this unit has that are no globals, where it is one.
+/// How many variables of this unit are no globals, where it is a leaf, and 0 where it is none.
 fn leaf_vars(leaves: &Leaves, unit: usize) -> usize
     ensures { result ≡ leaf_vars (leaf_at leaves.now.units unit) }
 {

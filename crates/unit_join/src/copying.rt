@@ -7,10 +7,10 @@ use flow_graph::Node;
 use mir_base::{Memory, Operand, Rhs, Test};
 use std::alloc::AllocError;
 
-/// The numbers of the copies of a leaf's variables in its caller.
+/// Which variables of its caller are the copies of a leaf's variables.
 #[derive(Clone, Copy)]
 pub(crate) struct CopyNumbers {
-    /// How many globals there are, which are their own copies.
+    /// How many globals there are. They are shared by all units, so that each is its own copy.
     pub(crate) shared: usize,
     /// The copy of the first variable that is no global. Those of the others follow in order.
     pub(crate) base: usize,
@@ -52,7 +52,7 @@ pub(crate) fn leaf_node(
     })
 }
 
-/// What a Return becomes.
+/// What a Return of `a` becomes: the assignment of `a` to `into`, and a Skip where the call has no variable.
 fn returned(into: Option<usize>, a: Operand, next: usize) -> Node
     ensures { result ≡ returned_node into a next }
 {
@@ -62,14 +62,14 @@ fn returned(into: Option<usize>, a: Operand, next: usize) -> Node
     }
 }
 
-/// The number of the node that stands for node m of a leaf.
+/// The number, in the caller, of the node that stands for node m of a leaf whose nodes behind Start begin at `first`.
 pub(crate) fn leaf_place(first: usize, m: usize) -> Result<usize, Memory>
     ensures { IfOk result (λ place. place ≡ leaf_place first m) }
 {
     plus(first, m.saturating_sub(1))
 }
 
-/// The copy of a variable.
+/// The number of the copy of a variable.
 pub(crate) fn copy(to: CopyNumbers, x: usize) -> Result<usize, Memory>
     ensures { IfOk result (λ number. number ≡ copy_number to.shared to.base x) }
 {
@@ -80,7 +80,7 @@ pub(crate) fn copy(to: CopyNumbers, x: usize) -> Result<usize, Memory>
     Ok(number)
 }
 
-/// The sum.
+/// The sum of two numbers of variables or nodes. It answers `Memory` where the sum is 2^64 or more.
 pub(crate) fn plus(a: usize, b: usize) -> Result<usize, Memory>
     ensures { IfOk result (λ sum. sum ≡ a + b) }
 {

@@ -14,7 +14,7 @@ use mir_base::{Memory, Operand};
 use program_pass::{Put, copied_nodes, marks_of, plain_put, stand, start_succ};
 use std::alloc::Global;
 
-/// The nodes, of which the calls of leaves have given way to the leaves.
+/// The nodes of the graph, with the nodes of a leaf in the place of each of these calls.
 pub(crate) fn joined(
     alloc: Global,
     graph: &Graph,
@@ -34,7 +34,7 @@ pub(crate) fn joined(
     Ok(nodes)
 }
 
-/// Lets the leaf stand in the place of its call.
+/// Puts the leaf that node `call` calls in the place of this node.
 fn join_at(
     alloc: Global,
     nodes: &mut Vec<Node>,
@@ -72,7 +72,7 @@ fn join_at(
     }
 }
 
-/// Lets this leaf stand in the place of node `call`.
+/// Puts the nodes of this leaf in the place of node `call`.
 fn put_leaf(
     alloc: Global,
     nodes: &mut Vec<Node>,
@@ -139,7 +139,7 @@ fn entry_assignments(
     Ok(puts)
 }
 
-/// The copies of the received variables get the arguments.
+/// The assignments of the arguments to the copies of the received variables.
 fn entered(
     alloc: Global,
     received: &[usize],
@@ -158,8 +158,8 @@ fn entered(
     Ok(puts)
 }
 
-/// Of so many variables the copies of those from number `first` on that are not received become 0. The marks tell which
-/// are received.
+/// Adds assignments of 0 to the copies of the variables from `first` to `vars` - 1 that are not received; the marks
+/// tell which are received.
 fn push_zeroed(
     puts: &mut Vec<Put>,
     marks: &[bool],

@@ -1,12 +1,12 @@
-//! Leaf units joined into their callers. In go the graph of a unit and the leaves of its program, and out comes the
-//! graph in which the nodes of a leaf stand in the place of each call of it (`join`); in goes a program, and out comes
-//! the program of these graphs (`join_program`). A leaf is a unit of at most 32 instructions that calls nobody. A unit into
-//! which its leaves would bring too many instructions to be read again is left as it is. For those who show it: what
-//! decides whether a unit is a leaf (`leaf_test`), and the graphs of a unit on its way (`join_steps`).
+//! Inlining: leaf units are joined into their callers. In goes a program, and out comes the program in which the nodes
+//! of a leaf stand in the place of each call of it (`join_program`); `join` does so for the graph of one unit. A leaf
+//! is a unit of at most 32 instructions that calls no unit. A unit that would get more instructions than a text may
+//! have is left as it is. For those who show the pass: what decides whether a unit is a leaf (`leaf_test`), and the
+//! graphs of a unit on its way through the pass (`join_steps`).
 //!
 //! The theorem that this crate carries is the contract of `join_program`: the program is the same, evaluates no more
-//! operators, and never has more frames. Since calls vanish, units do not do the same one by one: it rests on the rule
-//! for stacks of `mir_sim`.
+//! operators, and never has more frames. Since calls vanish, a unit alone does not do the same as before: the proof
+//! rests on the rule of `mir_sim` for whole stacks of frames.
 #![tactic(auto)]
 
 mod calls;

@@ -12,10 +12,10 @@ use program_pass::{laid_out, lowered_clean};
 use std::alloc::Global;
 
 /// The program whose units are those of this one with its leaves joined into them: each unit is lowered, cleaned,
-/// joined with the leaves of the program, cleaned and laid out; the globals stay. A unit that would then have more
-/// instructions than a unit of a text may have, 16,384, is left with no leaf joined into it, so that no join makes a unit
-/// too long to be read again. Units that nobody calls any more stay. The program is the same, evaluates no more
-/// operators, and never has more frames. It fails only with `Memory`.
+/// joined with the leaves of the program, cleaned and laid out; the globals stay. A unit that would then have more than
+/// 16,384 instructions, the most that a unit of a text may have, gets no leaf at all, so that its text can be read
+/// again. Units that are no longer called stay. The program is the same, evaluates no more operators, and never has
+/// more frames. It fails only with `Memory`.
 pub fn join_program(alloc: Global, program: &Program) -> Result<Program, Memory>
     ensures joined { IfOk result (IsJoinedProgram program.now) }
     ensures only { IfOk result (IsOnly (IsJoinedProgram program.now)) }

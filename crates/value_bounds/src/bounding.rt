@@ -10,17 +10,17 @@ use mir_base::Memory;
 use std::alloc::Global;
 
 /// The graph in which bounds are used. Each node has a state: no run comes to it, or each variable has bounds there: it
-/// is one number, or lies between two of fourteen ends (the least and the greatest number of 8, 16, 32 and 64 bits, with
-/// a sign and without, and -1, 0 and 1). After Start the globals and the received variables may be any number and the
-/// others are 0; an assignment gives its variable the bounds of its right side; after a call the globals and its
+/// is one number, or lies between two of fourteen ends (the least and the greatest number of 8, 16, 32 and 64 bits,
+/// with a sign and without, and -1, 0 and 1). After Start the globals and the received variables may be any number and
+/// the others are 0; an assignment gives its variable the bounds of its right side; after a call the globals and its
 /// variable may be any number; a test passes its state along the edges that it may take, and narrows both operands
 /// there; where edges meet, the least bounds stay that hold both. The least such states are meant.
 ///
 /// By them each variable operand that is one number becomes the number, a right side whose value is then known becomes
 /// that value, and a remainder, `min`, `max`, `and`, `or` or `ne` that gives one of its operands becomes the operand; a
 /// test that can go one way alone becomes a Skip to the successor there; a trap instruction whose test cannot hold
-/// becomes a Skip; and the nodes that are not reached are dropped. A trap instruction whose test always holds stays, and
-/// so does a division whose divisor may be 0, with their operands replaced.
+/// becomes a Skip; and the nodes that are not reached are dropped. A trap instruction whose test always holds stays,
+/// and so does a division whose divisor may be 0, with their operands replaced.
 ///
 /// The graph does the same and evaluates no more operators. It fails only with `Memory`.
 pub fn use_bounds(alloc: Global, graph: &Graph) -> Result<Graph, Memory>

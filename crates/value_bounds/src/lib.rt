@@ -3,8 +3,8 @@
 //! decided tests by the way that they take, trap instructions that are never raised by nothing, and nodes that are then
 //! not reached are dropped. A test that is passed narrows the bounds of its operands there.
 //!
-//! The theorem that this crate carries is the contract of `use_bounds`: the answer is the exact graph, made by the least
-//! bounds before the nodes, it does the same as the graph that goes in, and it evaluates no more operators.
+//! The theorem that this crate carries is the contract of `use_bounds`: the answer is the exact graph, made by the
+//! least bounds before the nodes, it does the same as the graph that goes in, and it evaluates no more operators.
 #![tactic(auto)]
 
 mod bounding;

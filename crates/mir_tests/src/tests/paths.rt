@@ -1,4 +1,5 @@
-// Where a bit holds by the three statements about paths; and that the call that makes its own blocks gives the same rows.
+// Where a bit holds by the three statements about paths; and that the call that makes its own blocks gives the same
+// rows.
 ghost use Rattle.std.specs.Prelude.{◌≡◌, IfOk};
 ghost use Rattle.flow_graph.specs.Blocks.{AreBlocksOf};
 ghost use Rattle.flow_graph.specs.Edges.{edges_of};

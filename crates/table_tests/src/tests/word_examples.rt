@@ -1,5 +1,5 @@
-// Programs, with lines of the tables that a word asks for. The expected lines were worked out by hand, from the rules of
-// docs/PASSES.md.
+// Programs, with lines of the tables that a word asks for. The expected lines were worked out by hand, from the rules
+// of docs/PASSES.md.
 
 /// Under `divisions`: a loop whose every turn divides.
 pub const DIVISIONS: &str = "\

@@ -1,5 +1,5 @@
-// Worked examples of programs that `optimise` gives another form, or leaves as they are, byte for byte. `worked.rt` says
-// how an example is written.
+// Worked examples of programs that `optimise` gives another form, or leaves as they are, byte for byte. `worked.rt`
+// says how an example is written.
 
 pub const EXAMPLES: &str = "\
 # the smallest program, which has no expression: one step leads to its end
