@@ -24,6 +24,8 @@ from typing import Callable, Union
 TOP = Path(__file__).resolve().parent.parent
 PASSES = 'mem2reg,simplifycfg,sccp,gvn,sink,adce,simplifycfg'
 STEPS = '20000'
+# `opt` takes up to 10 seconds, so it is called no more often.
+MOST_OF_OPT = 3
 
 
 def module(name: str):
@@ -66,7 +68,7 @@ def both_times(mir: str, case, repeat: int, folder: Path) -> Union[str, tuple[fl
         return made.stderr.decode().strip()
     source.write_bytes(made.stdout)
     opt = [shutil.which('opt'), '-S', f'-passes={PASSES}', source, '-o', '/dev/null']
-    return least_time(lambda: ran([mir, 'optimise'], text), repeat), least_time(lambda: ran(opt), repeat)
+    return least_time(lambda: ran([mir, 'optimise'], text), repeat), least_time(lambda: ran(opt), min(repeat, MOST_OF_OPT))
 
 
 def compare_times(mir: str, repeat: int, folder: Path) -> None:

@@ -4,6 +4,7 @@ import re
 import subprocess
 import sys
 import textwrap
+from concurrent.futures import ThreadPoolExecutor
 from pathlib import Path
 from typing import NamedTuple
 
@@ -22,6 +23,8 @@ DRAWN = {'`divisions.py`': ['divisions.py'], '`wanted.py`': ['wanted.py'],
 # The words of which a sentence says that there were no differences.
 ALSO = (['thorough'], ['passes', 'terms'], ['passes', 'extensions'], ['passes', 'unread'])
 MOST_ROUNDS = 16
+# The most programs whose native programs are timed, one after the other.
+TURNED = 200
 # A call of a text at the limits is stopped at these; and a command whose calls all take less than a second has no row.
 SECONDS, MEGABYTES, LONG = 12, 4000, 1.0
 FEW_WORKLOADS = ('diamonds', 'tails')
@@ -29,7 +32,8 @@ FEW_WORKLOADS = ('diamonds', 'tails')
 
 class How(NamedTuple):
     """The program, how many programs csmith draws, where the tests of GCC and what became of programs of C stand, the
-    processor on which native programs are timed, and whether few of all are taken, to try that each part works."""
+    processor on which native programs are timed, whether few of all are taken, to try that each part works, how many
+    processes work at a time, and a program that writes the same, of which what was counted is taken."""
 
     mir: str
     csmith: int = 560
@@ -37,10 +41,17 @@ class How(NamedTuple):
     keep: str = ''
     core: str = ''
     few: bool = False
+    jobs: int = 1
+    counted: str = ''
 
     def some(self, *words: str) -> list[str]:
         """These words where few are taken, and else none."""
         return list(words) if self.few else []
+
+    def of_real(self) -> list[str]:
+        """The words for `real.py`."""
+        counted = ['--counted', self.counted] if self.counted else []
+        return ['--jobs', str(self.jobs), *(['--keep', self.keep] if self.keep else []), *counted, '--fill', '--page']
 
 
 def said(how: How, script: str, *words: str) -> str:
@@ -64,11 +75,10 @@ def paragraph(page: str, begin: str, text: str) -> str:
 
 def real(page: Path, how: How) -> None:
     """Has `real.py` put its tables into the page, and puts in what follows from them."""
-    keep = ['--keep', how.keep] if how.keep else []
-    put = ['--csmith', str(how.csmith), *keep, '--fill', '--page', str(page)]
-    told = said(how, 'real.py', *put, '--set', 'small', 'large', 'inputs', 'examples')
+    put = [*how.of_real(), str(page)]
+    told = said(how, 'real.py', '--csmith', str(how.csmith), *put, '--set', 'small', 'large', 'inputs', 'examples')
     if how.gcc:
-        said(how, 'real.py', *keep, '--gcc', how.gcc, '--fill', '--page', str(page))
+        said(how, 'real.py', *how.some('--minutes', '0.5'), '--gcc', how.gcc, *put)
     text = page.read_text(encoding='utf-8')
     text = paragraph(text, 'Of what `optimise` leaves', real_tables.shares(text))
     pairs = re.findall(r'than optimise in (\d+) of (\d+) programs', told)[:-1]
@@ -80,35 +90,38 @@ def real(page: Path, how: How) -> None:
 
 def native(page: Path, how: How) -> None:
     """Has `real.py` put the times of native programs into the page."""
-    keep = ['--keep', how.keep] if how.keep else []
     core = ['--core', how.core] if how.core else []
-    told = said(how, 'real.py', '--csmith', str(min(how.csmith, 200)), *keep, *core, '--set', 'turns', '--fill',
-                '--page', str(page))
+    told = said(how, 'real.py', '--csmith', str(min(how.csmith, TURNED)), *core, *how.of_real(), str(page), '--set', 'turns')
     text = page.read_text(encoding='utf-8')
     text = re.sub(r'first [\d,]+ programs', f'first {number(told, "programs")} programs', text)
     page.write_text(text, encoding='utf-8')
 
 
+def last_lines(how: How, calls: list[list[str]]) -> list[str]:
+    """The closing line of each of these scripts, some of which run at a time."""
+    with ThreadPoolExecutor(how.jobs) as pool:
+        return list(pool.map(lambda words: said(how, *words).rstrip().split('\n')[-1], calls))
+
+
 def run_beside(page: str, how: How) -> str:
     """The page with the table of drawn programs that are run beside what is made of them."""
-    few = how.some('--programs', '20')
-    for name, words in DRAWN.items():
-        told = said(how, *words, *few).rstrip().split('\n')[-1]
+    few, jobs = how.some('--programs', '20'), ['--jobs', str(how.jobs)]
+    calls = [[*words, *(jobs if words == ['chains.py'] else []), *few] for words in DRAWN.values()]
+    calls += [['wanted.py', *few, '--words', *words] for words in ALSO]
+    compiled, *found = last_lines(how, [['against_llvm.py', '--repeat', '0', *few], *calls])
+    for name, told in zip(DRAWN, found):
         cells = [number(told, what) for what in ('runs', 'ended', 'trapped', 'running', 'ended with', 'differences')]
         row = re.compile(rf'^(\| {re.escape(name)} \| )[\d,]+([^|]* \|).*$', re.M)
         drawn, *cells = (f'{int(count.replace(",", "")):,}' for count in (number(told, 'programs'), *cells))
         page = row.sub(lambda found: found[1] + drawn + found[2] + ''.join(f' {cell} |' for cell in cells), page)
-    for words in ALSO:
-        said(how, 'wanted.py', *few, '--words', *words)
-    told = said(how, 'against_llvm.py', '--repeat', '0', *few).rstrip().split('\n')[-1]
     return paragraph(page, f'{number(page, "drawn programs with globals")} drawn programs',
-                     f'{number(told, "programs")} drawn programs with globals and trap instructions, run as they are, '
-                     f'optimised, compiled, and both: {number(told, "differences")} differences.')
+                     f'{number(compiled, "programs")} drawn programs with globals and trap instructions, run as they are, '
+                     f'optimised, compiled, and both: {number(compiled, "differences")} differences.')
 
 
 def rounds(page: str, how: How) -> str:
     """The page with the table of how many rounds of sinking are made."""
-    words = ['--csmith', str(min(how.csmith, 500)), *how.some('--programs', '20')]
+    words = ['--jobs', str(how.jobs), '--csmith', str(min(how.csmith, 500)), *how.some('--programs', '20')]
     for line in said(how, 'rounds.py', *words).rstrip().split('\n'):
         counts = dict(re.findall(r'(\d+): ([\d,]*\d)', line.split(':', 1)[1]))
         kind = 'C programs of csmith' if 'csmith' in line else 'drawn programs'
@@ -145,8 +158,8 @@ def limits(page: str, how: How) -> str:
     """The page with what texts at the limits take: a row for each command of which a call is long or was stopped, and what
     the others take at most."""
     commands = [words for words in hostile.COMMANDS if words != 'passes 64']
-    told = said(how, 'hostile.py', '--seconds', str(SECONDS), '--memory', str(MEGABYTES), *how.some('--of', '64'),
-                '--words', *commands)
+    told = said(how, 'hostile.py', '--seconds', str(SECONDS), '--memory', str(MEGABYTES), '--jobs', str(how.jobs),
+                *how.some('--of', '64'), '--words', *commands)
     calls, found = told.split('\n| Command |')
     ends = [line for line in calls.split('\n')[1:] if line]
     stopped = sum(line.endswith(('stopped', 'out of memory')) for line in ends)
@@ -165,9 +178,9 @@ def limits(page: str, how: How) -> str:
                      f'stopped. The other commands take at most {others:.1f} s on any shape.')
 
 
-def told_of(page: str, program: str, older: str) -> str:
-    """The page that says which program its numbers are of, and which rows are older."""
+def told_of(page: str, program: str, notes: str) -> str:
+    """The page that says which program its numbers are of, with notes on some of them."""
     begin = page.index('<!-- of which program -->')
     end = page.index('\n\n## ', begin)
-    text = f'All numbers are of {program}, by `bench/fill.py --all`{older}.'
+    text = f'All numbers are of {program}, by `bench/fill.py --all`{notes}.'
     return page[:begin] + '<!-- of which program -->\n' + textwrap.fill(text, 120, break_on_hyphens=False) + page[end:]

@@ -2,16 +2,16 @@
 """Draws texts at the limits of the language, shape by shape, calls `mir` on each under every command, and tells what took
 longest and what took most memory.
 
-    bench/hostile.py [--mir PATH] [--of N] [--draws N] [--seed N] [--seconds N] [--memory MB] [--words WORDS .. | --chains]
-                     [SHAPE ..]
+    bench/hostile.py [--mir PATH] [--of N] [--draws N] [--seed N] [--seconds N] [--memory MB] [--jobs N]
+                     [--words WORDS .. | --chains] [SHAPE ..]
 
 With no shape named, all are drawn, and with no words all commands are called. Words `passes 64` are a chain of as many
 passes as there may be: of all in turn, of one that is named behind them, or drawn by a number that stands there; with
 `--chains` each of these is called, and three draws. With `--of 4` each text has a quarter of the size that its shape may
-have. A call is stopped after N processor seconds (60) or where it takes more than so much
-memory (8,000 MB), and its line says so. Behind the lines are a row for each command, as README.md beside this file has it,
-the slowest call and the largest, and those that took more than 10 seconds or 1,000 MB and wrote no more than 64 MB: what
-a definition itself makes long is told by its bytes.
+have. A call is stopped after N processor seconds (60) or where it takes more than so much memory (8,000 MB), and its line
+says so. N calls are made at a time (1), each of which may have this memory. Behind the lines are a row for each command,
+as README.md beside this file has it, the slowest call and the largest, and those that took more than 10 seconds or 1,000
+MB and wrote no more than 64 MB: what a definition itself makes long is told by its bytes.
 
 It runs on Linux alone, with Python's standard library.
 """
@@ -23,6 +23,7 @@ import re
 import signal
 import sys
 import tempfile
+from concurrent.futures import ProcessPoolExecutor
 from pathlib import Path
 from typing import Callable, NamedTuple
 
@@ -205,7 +206,7 @@ def words_of(command: str, text: str) -> list[str]:
 
 def call(mir: str, shape: str, words: str, text: Path, folder: Path, seconds: int, memory: int) -> Taken:
     """Calls the command on a text. As in `run.py`, a shell that is small starts it, so that its peak of memory is its own."""
-    output, errors = folder / 'output', folder / 'errors'
+    output, errors = folder / f'output {os.getpid()}', folder / f'errors {os.getpid()}'
     write = os.O_WRONLY | os.O_CREAT | os.O_TRUNC
     streams = [
         (os.POSIX_SPAWN_OPEN, 0, text, os.O_RDONLY, 0),
@@ -234,11 +235,12 @@ def options() -> argparse.Namespace:
     parser.add_argument('--seed', type=int, default=0, metavar='N', help='the first number that draws (0)')
     parser.add_argument('--seconds', type=int, default=60, metavar='N', help='stop a call after so many (60)')
     parser.add_argument('--memory', type=int, default=8000, metavar='MB', help='the memory that a call may have (8000)')
+    parser.add_argument('--jobs', type=int, default=1, metavar='N', help='make N calls at a time (1)')
     parser.add_argument('--words', nargs='+', default=list(COMMANDS), metavar='WORDS', help=', '.join(COMMANDS))
     parser.add_argument('--chains', dest='words', action='store_const', const=CHAINS, help='call with chains of 64 passes')
     asked = parser.parse_args()
     unknown = set(asked.shapes) - set(shapes(1))
-    if unknown or min(asked.of, asked.draws, asked.seconds, asked.memory) < 1:
+    if unknown or min(asked.of, asked.draws, asked.seconds, asked.memory, asked.jobs) < 1:
         parser.error(f'no shape {", ".join(sorted(unknown))}' if unknown else 'N is at least 1')
     return asked
 
@@ -265,25 +267,32 @@ def tell(taken: list[Taken]) -> None:
             print(f'too much: {one.line()}')
 
 
+def draw_texts(asked: argparse.Namespace, folder: Path) -> list[tuple[str, Path]]:
+    """Draws what was asked for: the shapes, each with the file of a text."""
+    found = []
+    for shape, drawn in shapes(asked.of).items():
+        for number in range(asked.seed, asked.seed + asked.draws) if shape in (asked.shapes or [shape]) else ():
+            text = folder / f'{shape} {number}'
+            text.write_text(drawn(random.Random(number)))
+            if text.stat().st_size > BYTES:
+                raise Failure(f'{shape}: a text of {text.stat().st_size:,} bytes')
+            found.append((shape, text))
+    return found
+
+
 def main() -> int:
     """Draws what was asked for, and calls the commands."""
     asked = options()
-    adopt_orphans()
     taken = []
     print(f'{"shape":<20}{"words":<18}{"read kB":>9}{"seconds":>10}{"MB":>10}{"written kB":>12}')
-    with tempfile.TemporaryDirectory(prefix='mir-hostile-') as name:
+    with tempfile.TemporaryDirectory(prefix='mir-hostile-') as name, \
+            ProcessPoolExecutor(asked.jobs, initializer=adopt_orphans) as pool:
         folder = Path(name)
-        text = folder / 'text'
-        for shape, drawn in shapes(asked.of).items():
-            if asked.shapes and shape not in asked.shapes:
-                continue
-            for number in range(asked.seed, asked.seed + asked.draws):
-                text.write_text(drawn(random.Random(number)))
-                if text.stat().st_size > BYTES:
-                    raise Failure(f'{shape}: a text of {text.stat().st_size:,} bytes')
-                for words in asked.words:
-                    taken.append(call(asked.mir, shape, words, text, folder, asked.seconds, asked.memory))
-                    print(taken[-1].line(), flush=True)
+        calls = [pool.submit(call, asked.mir, shape, words, text, folder, asked.seconds, asked.memory)
+                 for shape, text in draw_texts(asked, folder) for words in asked.words]
+        for each in calls:
+            taken.append(each.result())
+            print(taken[-1].line(), flush=True)
     tell(taken)
     return 0
 

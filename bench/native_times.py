@@ -12,8 +12,9 @@ import mir_text
 
 LEVELS = ('-O0', '-O2')
 
-# A program is counted from these seconds on, and ended after those; and it makes no more turns than this.
-LEAST, LIMIT, GREATEST = 0.1, 30, 10 ** 9
+# A program is counted from these seconds on, and ended after those; and it makes no fewer turns and no more than these: with
+# four it has had all its lists of first values.
+LEAST, LIMIT, FEWEST, GREATEST = 0.1, 2, 4, 10 ** 9
 
 
 class Times(NamedTuple):
@@ -47,15 +48,13 @@ def alone_on(core: Optional[int]) -> None:
 
 
 def seconds_of(program: Path, words: list[str], core: Optional[int] = None) -> Optional[tuple[float, bytes]]:
-    """The user seconds of a call and what it printed; none where it takes too long or fails. No other process may end
-    meanwhile."""
-    before = resource.getrusage(resource.RUSAGE_CHILDREN)
-    try:
-        said = subprocess.run([str(program), *words], capture_output=True, timeout=LIMIT, preexec_fn=lambda: alone_on(core))
-    except subprocess.TimeoutExpired:
-        return None
-    taken = resource.getrusage(resource.RUSAGE_CHILDREN).ru_utime - before.ru_utime
-    return (taken, said.stdout) if said.returncode == 0 else None
+    """The user seconds of a call and what it printed; none where it takes too long or fails."""
+    with subprocess.Popen([str(program), *words], stdout=subprocess.PIPE, stderr=subprocess.DEVNULL,
+                          preexec_fn=lambda: alone_on(core)) as child:
+        printed = child.stdout.read()
+        _, status, used = os.wait4(child.pid, 0)
+        child.returncode = os.waitstatus_to_exitcode(status)
+    return (used.ru_utime, printed) if child.returncode == 0 else None
 
 
 def compiled(text: str, to_llvm, program: Path, level: str) -> Optional[str]:
@@ -69,7 +68,7 @@ def compiled(text: str, to_llvm, program: Path, level: str) -> Optional[str]:
     return said.stderr.decode('utf-8', 'replace').strip() or 'clang failed' if said.returncode else None
 
 
-def turns_wanted(program: Path, inputs: list[str], turns: int = 100, core: Optional[int] = None) -> int:
+def turns_wanted(program: Path, inputs: list[str], turns: int = FEWEST, core: Optional[int] = None) -> int:
     """How many turns take the least time that is measured, at least these; 0 where so many are not made or a run fails."""
     while turns <= GREATEST:
         taken = seconds_of(program, [*inputs, str(turns)], core)

@@ -28,9 +28,9 @@ programs have a run in which `thorough` evaluates more operators than `optimise`
 With `--fill` the tables are put into README.md beside this file, behind the line `<!-- bench/real.py -->`; those of a
 set that is not named stay. Where a set takes more than its part of `--minutes`, what is done by then is told. With
 `--keep FOLDER` what became of each program is written there as soon as it is known, and a call that is cut off goes on
-where it was: programs that were judged with the same `mir` are not judged again. With `--prepare` the native programs
-of the set `turns` are made there, on a machine that may be busy, and a later call without it measures them. It wants
-csmith, libcsmith-dev, clang and opt.
+where it was: programs that were judged with the same `mir`, or with the one of `--counted`, which writes the same, are
+not judged again. With `--prepare` the native programs of the set `turns` are made there, on a machine that may be busy,
+and a later call without it measures them. It wants csmith, libcsmith-dev, clang and opt.
 """
 
 import argparse
@@ -411,13 +411,21 @@ def prepare_all(bench: Bench, rows: real_rows.Rows, sources: dict[str, Callable[
     return [each for name in sources for each in rows.prepared.get(name, [])]
 
 
-def time_all(rows: real_rows.Rows, names: Iterable[str], repeat: int, core: Optional[int],
+def time_all(rows: real_rows.Rows, names: Iterable[str], repeat: int, core: Optional[int], jobs: int,
              end: float) -> list[native_times.Times]:
-    """The times of the programs that can be made to take long enough, one after the other, up to the end of their time;
-    those of files that were measured in an earlier call are taken."""
-    for name in names:
-        if name in rows.prepared and name not in rows.times and time.monotonic() < end:
-            rows.keep_times(name, [native_times.measured(each, repeat, core) for each in rows.prepared[name] if each.turns])
+    """The times of the programs that can be made to take long enough, of so many files at a time, up to the end of their
+    time; those of files that were measured in an earlier call are taken."""
+    def times_of(name: str) -> Optional[list[native_times.Times]]:
+        """The times of the programs of a file, where there is time left."""
+        if time.monotonic() > end:
+            return None
+        return [native_times.measured(each, repeat, core) for each in rows.prepared[name] if each.turns]
+
+    with ThreadPoolExecutor(jobs if core is None else 1) as pool:
+        tasks = {pool.submit(times_of, name): name for name in names if name in rows.prepared and name not in rows.times}
+        for task in as_completed(tasks):
+            if task.result() is not None:
+                rows.keep_times(tasks[task], task.result())
     return [each for name in names for each in rows.times.get(name, [])]
 
 
@@ -429,13 +437,14 @@ def words_given() -> argparse.Namespace:
     words.add_argument('--set', nargs='+', default=['small'], choices=[*drawn.SETTINGS, 'examples'],
                        help='which sets (small)')
     words.add_argument('--seed', type=int, default=1, help='the number of the first of them')
-    words.add_argument('--jobs', type=int, default=2, help='how many programs are judged at a time')
+    words.add_argument('--jobs', type=int, default=2, help='how many programs are judged or timed at a time')
     words.add_argument('--minutes', type=float, default=600, help='after how many nothing more is begun')
     words.add_argument('--repeat', type=int, default=3, help='of how many times the least is taken')
     words.add_argument('--prepare', action='store_true', help='make the programs of `turns`, and measure none')
-    words.add_argument('--core', type=int, help='run what is timed on this processor, before all else if this is allowed')
+    words.add_argument('--core', type=int, help='time one at a time on this processor, before all else if this is allowed')
     words.add_argument('--table', type=int, default=0, help='how many programs are shown in which LLVM leaves less')
     words.add_argument('--keep', type=Path, help='a folder for the programs, which stay there, and what became of each')
+    words.add_argument('--counted', type=Path, help='a program that writes the same; what is kept of it is taken')
     words.add_argument('--gcc', type=Path, help='the folder gcc.c-torture/execute of the tests of GCC')
     words.add_argument('--fill', action='store_true', help='put the tables into the page')
     words.add_argument('--page', type=Path, default=PAGE, help='the page (README.md beside this file)')
@@ -454,7 +463,7 @@ def main() -> int:
         folder.mkdir(exist_ok=True)
         (folder / 'csmith.h').write_text(drawn.HEADER)
         bench, begun = Bench(given.mir, folder), time.monotonic()
-        rows = real_rows.Rows(folder / 'outcomes', Path(given.mir))
+        rows = real_rows.Rows(folder / 'outcomes', given.counted or Path(given.mir))
         for at, name in enumerate(sets):
             end = begun + given.minutes * 60 * (at + 1) / len(sets)
             sources = sources_of(name, given, folder)
@@ -463,7 +472,7 @@ def main() -> int:
                 print(f'{len(found)} programs, {sum(bool(each.turns) for each in found)} to be measured', flush=True)
                 if given.prepare:
                     continue
-                times = time_all(rows, sources, given.repeat, given.core, end)
+                times = time_all(rows, sources, given.repeat, given.core, given.jobs, end)
                 print(*real_tables.time_lines(times), sep='\n', flush=True)
                 page = real_tables.with_times(page, times)
                 continue

@@ -1,7 +1,8 @@
 #!/usr/bin/env python3
 """Counts the rounds of sinking that `mir` makes of drawn programs, of C programs and of workloads.
 
-    bench/rounds.py [--mir PATH] [--programs N] [--csmith N] [--seed N] [FILE ..] [--workloads NAME ..]
+    bench/rounds.py [--mir PATH] [--programs N] [--csmith N] [--seed N] [--jobs N] [FILE ..]
+                    [--workloads NAME ..]
 
 The drawn programs are those of `divisions.py`; the C programs are those that csmith draws, as `real.py` has it, and the
 files that are named, brought in by `tools/from_c`. Of each program the greatest number of rounds that one of its units
@@ -17,6 +18,7 @@ import re
 import subprocess
 import sys
 import tempfile
+from concurrent.futures import ThreadPoolExecutor
 from pathlib import Path
 from typing import Iterable
 
@@ -54,9 +56,10 @@ def texts_of(sources: Iterable[drawn.Source]) -> Iterable[str]:
                 continue
 
 
-def tell(kind: str, mir: str, texts: Iterable[str]) -> None:
+def tell(kind: str, mir: str, jobs: int, texts: Iterable[str]) -> None:
     """Prints how many of these programs make how many rounds."""
-    counts = collections.Counter(rounds_of(mir, text) for text in texts)
+    with ThreadPoolExecutor(jobs) as pool:
+        counts = collections.Counter(pool.map(lambda text: rounds_of(mir, text), texts))
     told = ', '.join(f'{rounds}: {count:,}' for rounds, count in sorted(counts.items()))
     print(f'{sum(counts.values()):,} {kind} by their rounds: {told}')
 
@@ -74,13 +77,14 @@ def main() -> None:
     words.add_argument('--programs', type=int, default=2_500, metavar='N', help='how many programs are drawn')
     words.add_argument('--csmith', type=int, default=0, metavar='N', help='how many programs csmith draws')
     words.add_argument('--seed', type=int, default=1, metavar='N', help='the number of the first of each')
+    words.add_argument('--jobs', type=int, default=1, metavar='N', help='how many programs are worked on at a time (1)')
     words.add_argument('--workloads', nargs='*', default=[], metavar='NAME', help='workloads of run.py')
     words.add_argument('files', nargs='*', type=Path, metavar='FILE', help='C files and folders of them')
     given = words.parse_args()
     for name in given.workloads:
         tell_workload(given.mir, name)
     if given.programs:
-        tell('drawn programs', given.mir,
+        tell('drawn programs', given.mir, given.jobs,
              (Draw(number).program() for number in range(given.seed, given.seed + given.programs)))
     with tempfile.TemporaryDirectory() as made:
         folder = Path(made)
@@ -88,10 +92,10 @@ def main() -> None:
         numbers = list(range(given.seed, given.seed + given.csmith))
         groups = [numbers[at:at + drawn.TOGETHER] for at in range(0, len(numbers), drawn.TOGETHER)]
         if groups:
-            tell('programs of csmith', given.mir,
+            tell('programs of csmith', given.mir, given.jobs,
                  texts_of(drawn.drawn(drawn.SETTINGS['small'], some, folder, 'small') for some in groups))
         if given.files:
-            tell('C files', given.mir, texts_of(drawn.of_file(path, folder) for path in real.files_of(given.files)))
+            tell('C files', given.mir, given.jobs, texts_of(drawn.of_file(path, folder) for path in real.files_of(given.files)))
 
 
 if __name__ == '__main__':

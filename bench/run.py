@@ -3,9 +3,9 @@
 
     bench/run.py [--mir PATH] [--repeat N] [--callgrind] [WORKLOAD ..]
 
-With no workload named, all are measured; tables by the `mir_tables` beside a `mir` that is named. README.md beside this
-file tells what each shows. To add a workload, write a function that gives its cases, and a line in WORKLOADS. It runs on
-Linux alone, with Python's standard library.
+With no workload named, all are measured; tables by the `mir_tables` beside a `mir` that is named. What each shows stands
+in WORKLOADS, and is printed with it; README.md beside this file has the numbers. To add a workload, write a function that
+gives its cases, and a line in WORKLOADS. It runs on Linux alone, with Python's standard library.
 """
 
 import argparse
