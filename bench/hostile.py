@@ -147,6 +147,15 @@ def globals_handed_on(draw: random.Random, count: int) -> str:
             f'{moves}{fill}{prints}out: return x\nend\n')
 
 
+def globals_in_loops(draw: random.Random, count: int) -> str:
+    """The same with loops of one sum each in the place of the sums, so that to solve the unit once costs more."""
+    text = globals_handed_on(draw, 0)
+    sums = [f'v{number}' for number in range(64)]
+    loops = ''.join(f'M{number}: {draw.choice(sums)} <- {draw.choice(sums)} + 1\nif {draw.choice(sums)} = {number} goto M{number}\n'
+                    for number in range(count))
+    return text.replace('out: return x\n', loops + ''.join(f'print {name}\n' for name in sums) + 'out: return x\n')
+
+
 def shapes(of: int) -> dict[str, Callable[[random.Random], str]]:
     """What is drawn, at this part of the greatest size."""
     insts, units = INSTRUCTIONS // of, at_most(UNITS // of, 2)
@@ -173,6 +182,7 @@ def shapes(of: int) -> dict[str, Callable[[random.Random], str]]:
         'calls': lambda draw: with_calls(draw, units - 1),
         'globals': lambda draw: globals_and_calls(draw, at_most((insts - 8) // 3)),
         'globals-handed-on': lambda draw: globals_handed_on(draw, at_most(insts - 200)),
+        'globals-in-loops': lambda draw: globals_in_loops(draw, at_most((insts - 300) // 2)),
         'many-units': lambda draw: texts.many_units(BYTES // of // 4096 * 4096),
         'many-names': lambda draw: texts.many_names(BYTES // of // 16 * 16),
         'long-names': lambda draw: long_names(draw, BYTES // of),
