@@ -52,7 +52,7 @@ impl Rows {
         })
     }
 
-    /// No rows yet, with room for so many of so many bits. It fails only with `Memory`.
+    /// An empty set of rows of `bits` bits, with room for `rows` of them. It fails only with `Memory`.
     pub fn with_room(alloc: Global, rows: usize, bits: usize) -> Result<Rows, Memory>
         ensures { IfOk result (λ made. made ≡ []) }
     {

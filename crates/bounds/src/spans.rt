@@ -254,7 +254,7 @@ fn product(a: i128, b: i128) -> i128
     a * b
 }
 
-/// The number negated.
+/// A product negated. It is at most 2^126, so nothing overflows.
 fn negated(a: i128) -> i128
     requires { (pos 0 ≤ℤ a) × (a ≤ℤ pos 85070591730234615865843651857942052864) }
     ensures { result ≡ neg_ℤ a }

@@ -187,7 +187,7 @@ impl<K: Knowledge> Facts<K> {
         )
     }
 
-    /// The same, and each variable of which more may be known then is put among the news.
+    /// As `join_from`, and puts each variable of which more may be known then among the news.
     pub(crate) fn join_noting(&mut self, other: &Facts<K>, news: &mut StateNews) -> bool
         requires { length other.now ≡ length self.old }
         ensures joined { self.new ≡ joined_each K.rules.joined self.old other.now }

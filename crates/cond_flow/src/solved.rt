@@ -19,7 +19,8 @@ pub struct Solved<K: Knowledge> {
     pub made: Graph,
 }
 
-/// Both, where this is known outside: the states are solved once. It fails only with `Memory`.
+/// What `handed` and `rewritten_within` answer, where this is known outside, of one solution. It fails only with
+/// `Memory`.
 pub fn solved_within<K: Knowledge>(
     alloc: Global,
     graph: &Graph,

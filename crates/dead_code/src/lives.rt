@@ -42,7 +42,8 @@ fn live_before(alloc: Global, graph: &Graph, edges: &Edges, blocks: &Blocks) -> 
     Ok(rows)
 }
 
-/// Writes the rows of the nodes of one block, from its last on. In the row of the block goes what is live after it.
+/// Writes into `rows` what is live before each node of a block, from the last to the first. Row `block` of `live` has
+/// what is live after the block, and in the end what is live before it.
 fn fill_live(graph: &Graph, blocks: &Blocks, block: usize, live: &mut Rows, rows: &mut Rows)
     requires blocks { AreBlocksOf graph.now.nodes blocks.now }
     requires block { block < length blocks.now.lists }

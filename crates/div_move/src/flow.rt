@@ -95,8 +95,8 @@ impl<'a, L: Ledger> Flow for SlotFlow<'a, L> {
 }
 
 impl<'a, L: Ledger> SlotFlow<'a, L> {
-    /// Leaves in the first row of `room` which expressions are known to be down at a node, where these slots of it are
-    /// known.
+    /// Writes into the first row of `room` for which expressions a node is down, where `known` tells which of its slots
+    /// lead to nodes that are. The second row is overwritten.
     pub(crate) fn bring(&self, node: usize, known: &RowPair, room: &mut RowPair)
         requires valid { IsSlotFlow self.now }
         requires there { node < length self.now.graph.now.nodes }

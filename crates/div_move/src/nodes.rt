@@ -22,7 +22,7 @@ pub(crate) fn halts(node: &Node) -> bool
     }
 }
 
-/// Whether this slot of a node leads to that one.
+/// Whether the successor of a node in this slot is `to`; false where it has no such slot.
 pub(crate) fn leads(graph: &Graph, node: usize, slot: usize, to: usize) -> bool
     requires { node < length graph.now.nodes }
     ensures { result ≡ leads_at graph.now.nodes node slot to }

@@ -43,8 +43,9 @@ fn row_of(alloc: Global, bits: usize, value: bool) -> Result<Row, Memory>
     Ok(row)
 }
 
-/// Which of the two slots of a node are known to lead to nodes that are down, for each expression, and room for as
-/// much, so that what passes along an edge needs no memory. Contracts see a pair of bits for each expression.
+/// For each expression, which of a node's two slots are known to lead to a node that is down (a run must come to the
+/// division). `room` is as large and scratch, so that a push does not allocate. Contracts see a pair of bits for each
+/// expression.
 #[derive(Drop)]
 pub struct Slots {
     pub(crate) known: RowPair,

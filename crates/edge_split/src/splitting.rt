@@ -74,7 +74,8 @@ struct NewSkips {
 }
 
 impl NewSkips {
-    /// The node, of whose edges each that enters a join goes through a new Skip.
+    /// The node with each of its edges into a join led through a new Skip, which is appended to `made`. It fails
+    /// only with `Memory`.
     fn reroute(&mut self, node: &Node) -> Result<Node, Memory>
         requires within { AllBelow (length self.old.entries.items) (node_succs node.now) }
         requires room { self.old.first < 2 ^ 63 }

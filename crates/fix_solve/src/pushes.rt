@@ -40,7 +40,7 @@ pub(crate) fn solve_from<F: Flow>(
     drain(values, news, waiting, ends, flow, steps);
 }
 
-/// Makes all of each value news.
+/// Marks the whole of each value as news: nothing of it has been pushed yet.
 fn renew_each<N: News>(news: &mut [N])
     ensures long { length news.new ≡ length news.old }
     ensures fit { (nodes : ℕ) (size : ℕ) → NewsFit N.fits nodes size news.old

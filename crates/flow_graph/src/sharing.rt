@@ -37,7 +37,8 @@ impl Names {
         Ok(Names { shared })
     }
 
-    /// The names and others after them; a share where there are no others. It fails only with `Memory`.
+    /// These names with `extra` behind them: a new list, or the same one shared (`Rc`) where `extra` is empty. It fails
+    /// only with `Memory`.
     pub fn with(&self, alloc: Global, extra: Vec<Name>) -> Result<Names, Memory>
         ensures { IfOk result (λ all. all ≡ self.now ++ extra.items) }
     {

@@ -51,7 +51,7 @@ fn start(alloc: Global, program: &Program, inputs: &[i64]) -> Result<RunSoFar, M
     })
 }
 
-/// The report of the run so far, which stands so.
+/// The report of the run so far; `finish` says whether it goes on, ended or trapped.
 fn report(so_far: RunSoFar, finish: Finish) -> Report
     ensures lines { result.lines ≡ so_far.printed.items }
     ensures finish { result.finish ≡ finish }

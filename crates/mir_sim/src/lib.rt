@@ -65,8 +65,9 @@ pub fn has_few_frames(program: &Program)
     let _ = &program.units;
 }
 
-/// Has no effect; carries the theorem that where besides each unit of a second program calls no unit that the first's
-/// of its number does not, this holds of its runs too. It does not allocate.
+/// Has no effect; carries the theorem of `has_few_frames` for two programs: units of the first call units of higher
+/// numbers alone, and each unit of the second calls only what the unit of its number in the first calls. It does not
+/// allocate.
 pub fn both_have_few_frames(first: &Program, second: &Program)
     requires higher { CallsHigher first.now }
     requires no_more { CallsNoMore first.now second.now }

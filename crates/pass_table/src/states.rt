@@ -38,7 +38,7 @@ fn put_each(text: &mut Vec<u8>, graph: &Graph, known: &[Option<Vec<Known>>]) -> 
     Ok(())
 }
 
-/// Appends the line of a node of which this is known.
+/// Appends the line `state` of a node: what is known of each variable before it; `None`: no run comes to it.
 fn put_line(text: &mut Vec<u8>, node: usize, known: &Option<Vec<Known>>) -> Result<(), Memory>
     ensures { AppendsOnOk result text.old text.new
         (state_line node (option_map (λ list. list.items) known.now)) }

@@ -138,8 +138,8 @@ fn hand_on(problem: &Problem<'_>, before: usize, node: usize, rows: &mut Rows)
 }
 
 /// Joins to the row of a node what the node `before` it in its block hands on along the edges: what came to `before`
-/// and is not barred there, and the seeds of `before`. For a question on every path both are taken in one pass, unless
-/// paths end at `before`.
+/// and is not barred there, and the seeds of `before`. For a question on every path one pass over the words does both,
+/// unless paths end at `before`.
 fn hand_along(problem: &Problem<'_>, before: usize, node: usize, rows: &mut Rows)
     requires problem { IsProblem problem.now }
     requires before { before < length problem.now.graph.now.nodes }

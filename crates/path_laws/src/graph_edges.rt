@@ -4,8 +4,8 @@ ghost use Rattle.flow_graph.specs.FlowEdges.{IsFlowEdge, edges_along, first_amon
 
 use flow_graph::Edges;
 
-/// The source and the target of an edge of the flow: along the edges in order of their sources, against them in order
-/// of their targets.
+/// An edge of the flow by its number, as (from, to): along the edges in order of sources; against them in order of
+/// targets, from target to source.
 pub(crate) fn flow_edge(edges: &Edges, against: bool, number: usize) -> (usize, usize)
     requires { number < length (edges_along against edges.now) }
     ensures { IsFlowEdge against edges.now number result.0 result.1 }

@@ -158,7 +158,8 @@ fn raise_call(
     }
 }
 
-/// Raises the row of a unit to these.
+/// Raises each number in the row of a unit to that of `ask` where it is less; where one was, marks the unit as stale
+/// and answers true.
 fn raise_row(unit: usize, ask: &Widths, backs: &mut Vec<Widths>, stale: &mut Vec<bool>) -> bool
     requires there { unit < length backs.old.items }
     requires long { length ask.now ≡ length (list_at backs.old.items unit) }

@@ -106,8 +106,9 @@ fn take_in(
     places.take_in(over.graph, &nodes[list[index]], block, index);
 }
 
-/// Puts the patterns of a row, which come into a block and are blocked there, or lets them leave it. Its nodes are taken
-/// in, and the others that come into it are settled.
+/// Settles each pattern of a row, which come into a block and are blocked in it: it is put before the first node that
+/// stops it, or else leaves the block. `places` has all nodes of the block; the other patterns that come in were let
+/// through before.
 fn settle_all(
     over: &OverBlocks<'_>,
     block: usize,

@@ -25,7 +25,7 @@ pub enum Position {
     Then(usize),
 }
 
-/// A call: the number of the unit that it calls, and how it stands.
+/// A call: the number of the unit that it calls, and whether it is in tail position, or why not.
 #[derive(Clone, Copy, Debug, PartialEq, Eq)]
 pub struct CallPosition {
     /// The unit.

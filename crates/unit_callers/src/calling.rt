@@ -59,7 +59,7 @@ pub fn callers_of(alloc: Global, graphs: &Vec<Graph>) -> Result<Vec<Callers>, Me
     Ok(callers)
 }
 
-/// None of so many units.
+/// For each of so many units a list of callers with none in it.
 fn no_callers(alloc: Global, count: usize) -> Result<Vec<Callers>, Memory>
     ensures { IfOk result (λ callers. callers.items ≡ replicate count []) }
 {

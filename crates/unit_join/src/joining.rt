@@ -72,7 +72,8 @@ fn join_at(
     }
 }
 
-/// Puts the nodes of this leaf in the place of node `call`.
+/// Puts a leaf in the place of node `call`: the assignments of its entry, then its nodes but Start. `to` numbers the
+/// copies of its variables; its Returns set `into`, if there is one, and lead to `next`.
 fn put_leaf(
     alloc: Global,
     nodes: &mut Vec<Node>,

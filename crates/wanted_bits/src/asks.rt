@@ -131,8 +131,9 @@ fn ask_all(
     Ok(())
 }
 
-/// Puts in their places what the nodes of a block ask for, from the last node to the first, by the numbers behind the
-/// block. The numbers before it are left in their place.
+/// Writes into `asks`, at each node of a block, what it asks of other units (`None` but at Start and calls). `bits` has
+/// what is wanted behind the block; the walk goes from the last node to the first, and leaves there what is wanted
+/// before it.
 fn ask_block(
     alloc: Global,
     asks: &mut [Option<Widths>],

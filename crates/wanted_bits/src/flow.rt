@@ -21,8 +21,8 @@ use std::alloc::Global;
 use std::marker::PhantomData;
 use std::sync::ledger::Ledger;
 
-/// Wanted bits flow from block to block against the edges. `touched` has for each block some variables, among them
-/// those that it touches.
+/// Wanted bits flow from block to block against the edges. For each block `touched` has the variables that it touches,
+/// and perhaps more.
 #[derive(Drop)]
 pub(crate) struct WantedFlow<'a, L: Ledger> {
     pub(crate) graph: &'a Graph,

@@ -147,7 +147,8 @@ fn where_allowed(allowed: bool, fact: ZeroFact) -> ZeroFact
     if allowed { fact } else { ZeroFact::Never }
 }
 
-/// Whether something is so where the number is 0, or where it is not, of those that the fact allows.
+/// Whether the answer is yes for some number that the fact allows: `at_zero` is the answer at 0, `elsewhere` at every
+/// other number.
 fn any_of(x: ZeroFact, at_zero: bool, elsewhere: bool) -> bool
     ensures { result ≡ any_of x at_zero elsewhere }
 {
