@@ -29,8 +29,8 @@ pub enum Command {
     Tails,
     /// `join`: the canonical text of the program with its leaves joined into their callers.
     Join,
-    /// `thorough`: the canonical text of what turns of `tails`, `join`, `optimise`, `demanded`, `known` and `called`
-    /// make of the program until a turn changes nothing.
+    /// `thorough`: the canonical text of what turns of `tails`, `join`, `arguments`, `optimise`, `terms`, `demanded`,
+    /// `known`, `extensions`, `unread` and `called` make of the program until a turn changes nothing.
     Thorough,
     /// `passes [PASS ..]`: the canonical text of what these passes make one after another, from the first to the last.
     Passes,

@@ -31,7 +31,7 @@ pub(crate) fn passes(alloc: Global, words: &[String]) -> Result<Vec<Pass>, Memor
     }
 }
 
-/// The passes of these words, with `clean` for a word of none.
+/// The passes that the words name. They were judged before; `clean` for any other word keeps the function total.
 fn passes_of(alloc: Global, words: &[String]) -> Result<Vec<Pass>, Memory>
     ensures { IfOk result (λ passes. passes.items ≡ map pass_value (word_bytes words.now)) }
 {
