@@ -1,2 +1,3 @@
 mod Examples
 pub mod Ways
+pub mod KindLaws

@@ -1,5 +1,5 @@
 -- Facts as they are kept: by a kind and a number. Cited by contracts, and the laws by proofs only.
-use Rattle.std.proofs.Common.{◌≡◌, ℕ, ◌+◌, ◌-◌, ◌*◌, ◌/◌, ◌%◌, ◌≤◌, ℤ, pos, if◌then◌else◌, nat_eq, refl, ap, ◌∙◌, arith}
+use Rattle.std.proofs.Common.{◌≡◌, ℕ, ◌+◌, ◌-◌, ◌*◌, ◌/◌, ◌%◌, ◌<◌, ◌≤◌, ℤ, pos, Bool, true, false, ◌&&◌, if◌then◌else◌, nat_eq, nat_le, Option, Some, None, refl, ap, ◌∙◌, arith}
 use Rattle.std.proofs.lemmas.Bool.{ne_eqb}
 use Rattle.bounds.specs.declared.ends.End.{End}
 use Rattle.bounds.specs.declared.ends.End.TheVariants.{Least, Min32, Min16, Min8, MinusOne, Zero, One, Max8, MaxU8, Max16, MaxU16, Max32, MaxU32, Greatest}
@@ -47,6 +47,33 @@ decoded_fact kind number =
     else if nat_eq kind 1 then Never
     else Between (end_at ((kind - 2) / 14)) (end_at ((kind - 2) % 14))
 
+-- ---- where two paths meet
+
+-- a kind is that of an interval
+abbrev pub is_interval : ℕ → Bool
+is_interval kind = nat_le 2 kind && nat_le kind 197
+
+-- the lower of two places
+abbrev pub lower_place : ℕ → ℕ → ℕ
+lower_place place other = if nat_le place other then place else other
+
+-- and the upper
+abbrev pub upper_place : ℕ → ℕ → ℕ
+upper_place place other = if nat_le place other then other else place
+
+-- the kind of the least interval that holds two, by the places of their ends
+abbrev pub joined_interval : ℕ → ℕ → ℕ
+joined_interval ends other =
+    2 + 14 * lower_place (ends / 14) (other / 14) + upper_place (ends % 14) (other % 14)
+
+-- the kind of what is known where two paths meet, if both know an interval
+abbrev pub joined_kind : ℕ → ℕ → Option ℕ
+joined_kind kind other =
+    if is_interval kind && is_interval other then Some (joined_interval (kind - 2) (other - 2))
+    else None
+
+-- ---- laws
+
 -- places are below 14
 pub index_small : (e : End) → index e ≤ 13
 index_small Least = omega arith
@@ -82,7 +109,7 @@ end_back MaxU32 = refl
 end_back Greatest = refl
 
 -- from 2 on a kind stands for an interval
-interval_of : (kind : ℕ) (number : ℤ) → 2 ≤ kind
+pub interval_of : (kind : ℕ) (number : ℤ) → 2 ≤ kind
     → decoded_fact kind number ≡ Between (end_at ((kind - 2) / 14)) (end_at ((kind - 2) % 14))
 interval_of kind number h =
     let rest : Fact = Between (end_at ((kind - 2) / 14)) (end_at ((kind - 2) % 14)) in
@@ -104,3 +131,19 @@ pub fact_stands : (x : Fact) → decoded_fact (kind_of x) (number_of x) ≡ x
 fact_stands (Fixed c) = refl
 fact_stands Never = refl
 fact_stands (Between e f) = interval_back e f (pos 0)
+
+-- the lower of two places is one of them
+pub lower_small : (a b n : ℕ) → a < n → b < n → lower_place a b < n
+lower_small a b n p q = by (nat_le a b)
+  where
+    by : (t : Bool) → (if t then a else b) < n
+    by true = p
+    by false = q
+
+-- and so is the upper
+pub upper_small : (a b n : ℕ) → a < n → b < n → upper_place a b < n
+upper_small a b n p q = by (nat_le a b)
+  where
+    by : (t : Bool) → (if t then b else a) < n
+    by true = q
+    by false = p

@@ -1,6 +1,6 @@
 // Facts as they are kept: by a kind and a number.
-ghost use Rattle.std.specs.Prelude.{◌≡◌};
-ghost use Rattle.bounds.specs.Coding.{decoded_fact, end_at, fact_stands, interval_kind, kind_of, number_of};
+ghost use Rattle.std.specs.Prelude.{◌≡◌, ◌<◌};
+ghost use Rattle.bounds.specs.Coding.{decoded_fact, end_at, fact_stands, interval_kind, is_interval, joined_interval, joined_kind, kind_of, lower_place, number_of, upper_place};
 
 use crate::ends::{End, index};
 use crate::facts::Fact;
@@ -40,6 +40,10 @@ impl Coded for Fact {
         }
     }
 
+    fn tells_all(kind: u8) -> bool {
+        kind != 0
+    }
+
     ghost stands = { fact_stands };
 }
 
@@ -49,6 +53,50 @@ fn interval_kind(low: End, high: End) -> u8
     ensures { result ≡ interval_kind low high }
 {
     2 + 14 * index(low) + index(high)
+}
+
+/// Whether a kind is that of an interval.
+fn is_interval(kind: u8) -> bool
+    ensures { result ≡ is_interval kind }
+{
+    2 <= kind && kind <= 197
+}
+
+/// The kind of what is known where two paths meet, if it is seen by the two kinds: if both are intervals.
+pub(crate) fn joined_kind(kind: u8, other: u8) -> Option<u8>
+    ensures { result ≡ joined_kind kind other }
+{
+    if is_interval(kind) && is_interval(other) {
+        Some(joined_interval(kind - 2, other - 2))
+    } else {
+        None
+    }
+}
+
+/// The kind of the least interval that holds two, by the places of their ends.
+#[tactic(auto, using(crate::specs::Coding::lower_small, crate::specs::Coding::upper_small))]
+fn joined_interval(ends: u8, other: u8) -> u8
+    requires here { ends < 196 }
+    requires there { other < 196 }
+    ensures { result ≡ joined_interval ends other }
+{
+    let low = lower_place(ends / 14, other / 14);
+    let high = upper_place(ends % 14, other % 14);
+    2 + 14 * low + high
+}
+
+/// The lower of two places.
+fn lower_place(place: u8, other: u8) -> u8
+    ensures { result ≡ lower_place place other }
+{
+    if place <= other { place } else { other }
+}
+
+/// The upper of two places.
+fn upper_place(place: u8, other: u8) -> u8
+    ensures { result ≡ upper_place place other }
+{
+    if place <= other { other } else { place }
 }
 
 /// The end at this place, from the least.

@@ -5,7 +5,7 @@ ghost use Rattle.bounds.specs.Facts.{BelowFact, fact_rank, high_end, hull, joine
 ghost use Rattle.bounds.specs.FactLaws.{fact_laws, fact_size};
 
 use crate::ends::{End, are_same_ends, ceiling, floor, lower, upper};
-use fix_solve::{AllNews, Lattice};
+use fix_solve::{AllNews, Lattice, NoRoom};
 
 /// What is known of the value of a variable.
 #[derive(Clone, Copy, Debug, PartialEq, Eq)]
@@ -96,6 +96,8 @@ pub(crate) fn are_same(x: Fact, y: Fact) -> bool
 
 impl Lattice for Fact {
     type News = AllNews;
+
+    type Room = NoRoom;
 
     ghost below = { BelowFact };
 

@@ -3,6 +3,7 @@ ghost use Rattle.bounds.specs.Facts.{BelowFact, Bounds};
 ghost use Rattle.bounds.specs.BoundRules.{bound_rules};
 ghost use Rattle.bounds.specs.BoundRuleLaws.{bound_laws, bound_open};
 
+use crate::coding::joined_kind;
 use crate::facts::{Fact, are_same, joined_fact};
 use crate::reading::{anything, fact_of_rhs};
 use crate::tests_of::{may_go, narrow};
@@ -27,6 +28,10 @@ impl Knowledge for Fact {
 
     fn joined(self, other: Fact) -> Fact {
         joined_fact(self, other)
+    }
+
+    fn joined_kind(kind: u8, other: u8) -> Option<u8> {
+        joined_kind(kind, other)
     }
 
     fn is_same(self, other: Fact) -> bool {

@@ -134,6 +134,11 @@ number_of Varying = pos 0
 abbrev pub decoded_known : ℕ → ℤ → Known
 decoded_known kind number = if nat_eq kind 0 then Fixed number else Varying
 
+-- the kind of what is known where two paths meet, if one of the two kinds says that the value varies
+abbrev pub varying_kind : ℕ → ℕ → Option ℕ
+varying_kind kind other =
+    if nat_eq kind 0 then (if nat_eq other 0 then None else Some 1) else Some kind
+
 -- the rules of folding: along the edges of a test what is known stays as it is
 abbrev pub fold_rules : Rules Known
 fold_rules = record {

@@ -1,6 +1,7 @@
 // Constants as what is known of variables.
+ghost use Rattle.std.specs.Prelude.{◌≡◌};
 ghost use Rattle.cond_const.specs.States.{BelowKnown, HasValue, is_varying};
-ghost use Rattle.cond_const.specs.Folding.{decoded_known, fold_rules, number_of};
+ghost use Rattle.cond_const.specs.Folding.{decoded_known, fold_rules, number_of, varying_kind};
 ghost use Rattle.cond_const.specs.RewritingLaws.{fold_laws, known_stands, fold_open};
 
 use crate::known::{Known, are_same, folded_rhs, joined_known, known_rhs, may_go, resolved};
@@ -36,6 +37,10 @@ impl Coded for Known {
         }
     }
 
+    fn tells_all(kind: u8) -> bool {
+        kind != 0
+    }
+
     ghost stands = { known_stands };
 }
 
@@ -56,6 +61,10 @@ impl Knowledge for Known {
 
     fn joined(self, other: Known) -> Known {
         joined_known(self, other)
+    }
+
+    fn joined_kind(kind: u8, other: u8) -> Option<u8> {
+        varying_kind(kind, other)
     }
 
     fn is_same(self, other: Known) -> bool {
@@ -83,4 +92,15 @@ impl Knowledge for Known {
     ghost laws = { fold_laws };
 
     ghost is_open = { fold_open };
+}
+
+/// The kind of what is known where two paths meet, if it is seen by the two kinds: if one of them says "varying".
+fn varying_kind(kind: u8, other: u8) -> Option<u8>
+    ensures { result ≡ varying_kind kind other }
+{
+    if kind == 0 {
+        if other == 0 { None } else { Some(1) }
+    } else {
+        Some(kind)
+    }
 }

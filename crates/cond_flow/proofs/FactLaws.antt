@@ -1,9 +1,10 @@
 -- What is known of variables, as it is kept in two lists, place by place.
-use Rattle.std.proofs.Common.{pos, ◌≡◌, ℕ, ℤ, zero, suc, ◌+◌, ◌<◌, ◌≤◌, slice_set, List, [], ◌∷◌, ◌++◌, length, take, replicate, get_or, refl, sym, ap, arith, ◌∙◌, ⊎_elim, take_all}
+use Rattle.std.proofs.Common.{pos, ◌≡◌, ◌↔◌, ℕ, ℤ, Bool, false, zero, suc, ◌+◌, ◌<◌, ◌≤◌, slice_set, List, [], ◌∷◌, ◌++◌, length, take, replicate, get_or, refl, sym, ap, arith, ◌∙◌, ⊎_elim, take_all}
 use Rattle.std.specs.List.{AllClonesOf, AppendsClonesOf}
+use Rattle.std.proofs.lemmas.List.{set-get_or}
 use Rattle.std.proofs.lemmas.Option.{slice_get-get_or}
 use Rattle.flow_graph.specs.ListLaws.{take_next}
-use Rattle.cond_flow.specs.FactLists.{decoded_each}
+use Rattle.cond_flow.specs.FactLists.{IsJoinedKind, JoinedCode, StaysCode, decoded_each, joined_code}
 use Rattle.cond_flow.specs.Rules.{OrderRules, Rules}
 
 -- where a path meets itself nothing is lost
@@ -46,10 +47,39 @@ module _ {K : Type 0} (decoded : ℕ → ℤ → K) where
   facts_set (f ∷ kinds) (v ∷ numbers) zero k n e = refl
   facts_set (f ∷ kinds) (v ∷ numbers) (suc x) k n e = ap (λ l. decoded f v ∷ l) (facts_set kinds numbers x k n (let e' : suc (length numbers) ≡ suc (length kinds) = e in omega arith))
 
+  -- a kind is set, and the number stays
+  pub kind_set : (kinds : List ℕ) (numbers : List ℤ) (x k : ℕ) → length numbers ≡ length kinds → decoded_each decoded (slice_set kinds x k) numbers ≡ slice_set (decoded_each decoded kinds numbers) x (decoded k (get_or numbers x (pos 0)))
+  kind_set kinds numbers x k e =
+      ap (decoded_each decoded (slice_set kinds x k)) (sym (set-get_or numbers x (pos 0))) ∙ facts_set kinds numbers x k (get_or numbers x (pos 0)) e
+
   -- the same of each
   pub facts_alike : (c k : ℕ) (n : ℤ) → decoded_each decoded (replicate c k) (replicate c n) ≡ replicate c (decoded k n)
   facts_alike zero k n = refl
   facts_alike (suc c) k n = ap (λ l. decoded k n ∷ l) (facts_alike c k n)
+
+module _ {K : Type 0} (rules : Rules K) (decoded : ℕ → ℤ → K) where
+  -- what is known where paths meet has the kind that the two kinds tell
+  kinds_tell : (kinds : List ℕ) (numbers : List ℤ) (x kind met : ℕ) (n : ℤ) → length numbers ≡ length kinds → x < length kinds → IsJoinedKind rules decoded (get_or kinds x 0) kind met
+      → decoded met (get_or numbers x (pos 0)) ≡ joined_code rules decoded kinds numbers x kind n
+  kinds_tell kinds numbers x kind met n long there meets =
+      sym (meets.joined (get_or numbers x (pos 0)) n) ∙ ap (λ k. rules.joined k (decoded kind n)) (sym (facts_at decoded kinds numbers x 0 (pos 0) (decoded kind n) long there))
+
+  -- so to set it is to join
+  pub kind_joins : (kinds : List ℕ) (numbers : List ℤ) (x kind met : ℕ) (n : ℤ) → length numbers ≡ length kinds → x < length kinds → IsJoinedKind rules decoded (get_or kinds x 0) kind met
+      → JoinedCode rules decoded kinds numbers x kind n (decoded_each decoded (slice_set kinds x met) numbers)
+  kind_joins kinds numbers x kind met n long there meets =
+      kind_set decoded kinds numbers x met long ∙ ap (slice_set (decoded_each decoded kinds numbers) x) (kinds_tell kinds numbers x kind met n long there meets)
+
+  -- and nothing changes where it is set already
+  pub kind_stays : (kinds : List ℕ) (numbers : List ℤ) (x kind met : ℕ) (n : ℤ) (changed : Bool) → length numbers ≡ length kinds → x < length kinds → IsJoinedKind rules decoded (get_or kinds x 0) kind met
+      → ((changed ≡ false) ↔ (met ≡ get_or kinds x 0)) → (changed ≡ false) ↔ StaysCode rules decoded kinds numbers x kind n
+  kind_stays kinds numbers x kind met n changed long there meets tells =
+      let v = get_or numbers x (pos 0) in
+      let told = kinds_tell kinds numbers x kind met n long there meets in
+      let here = facts_at decoded kinds numbers x 0 (pos 0) (decoded kind n) long there in (
+        λ off. sym told ∙ ap (λ k. decoded k v) (tells.0 off) ∙ sym here,
+        λ same. tells.1 (meets.stays v (told ∙ same ∙ here)),
+      )
 
 -- past the last nothing is set
 pub items_kept : {T : Type 0} (ks : List T) (x : ℕ) (k : T) → length ks ≤ x → slice_set ks x k ≡ ks

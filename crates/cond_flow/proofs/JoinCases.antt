@@ -8,7 +8,6 @@ use Rattle.cond_flow.specs.StateLaws.{state_joins}
 use Rattle.cond_flow.specs.Blockwise.{Along, AlongLaws, along_at, through_nodes, last_of, out_of}
 use Rattle.cond_flow.specs.FlowLaws.{through_size}
 use Rattle.cond_flow.specs.Passing.{known_after, passed_along, passes}
-use Rattle.cond_flow.proofs.Joins.{length_joined}
 
 module _ {K : Type 0} {below : K → K → Type 0} {rules : Rules K} (order : OrderRules below rules) where
   -- what is equal to the join is the least upper bound
@@ -93,11 +92,6 @@ module _ {K : Type 0} {below : K → K → Type 0} {rules : Rules K} (order : Or
         sized : (o : Option Node) → size_of (along_at along o slot (through_nodes along nodes (take (length list - 1) list) s)) ≡ size_of (through_nodes along nodes (take (length list - 1) list) s)
         sized None = refl
         sized (Some node) = laws.sized node slot _
-
--- after a join, if there is one, as many are known
-pub where_long : {K : Type 0} (join : K → K → K) (top : K) (r : Bool) (xs ys zs : List K) → zs ≡ (if r then joined_each join xs ys else xs) → length xs ≡ length ys → length zs ≡ length xs
-where_long join top true xs ys zs is e = ap length is ∙ length_joined join top xs ys e
-where_long join top false xs ys zs is e = ap length is
 
 -- how many are known of a block
 pub kept_long : {K : Type 0} (b : Bool) (xs : List K) (s : NodeState K) → state_where b xs ≡ s → length xs ≡ size_of s

@@ -57,6 +57,14 @@ module _ {K : Type 0} (rules : Rules K) where
   pub keeps_none : (news : NewsShape) (xs : List K) → KeepsRaised rules news xs news xs
   keeps_none news xs = record { long = refl; was = λ off. off; same = λ off k out. (out, refl) }
 
+  -- all is news
+  pub keeps_whole : (news : NewsShape) (xs ys : List K) → length ys ≡ length xs → news.whole ≡ true → KeepsRaised rules news xs news ys
+  keeps_whole news xs ys long all = record {
+    long = long;
+    was = λ off. off;
+    same = λ off k out. absurd (let bad : true ≡ false = sym all ∙ off in cc);
+  }
+
   -- a list in which one variable was joined stays if nothing is told
   pub stays_where : (ys zs : List K) (x : ℕ) (v d : K) (rose : Bool) → zs ≡ slice_set ys x v
       → ((rose ≡ false) ↔ (v ≡ get_or ys x d)) → rose ≡ false → zs ≡ ys

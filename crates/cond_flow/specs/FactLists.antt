@@ -26,3 +26,10 @@ abbrev pub StaysCode : {K : Type 0} → Rules K → (ℕ → ℤ → K) → List
 StaysCode rules decoded kinds numbers i kind number =
     joined_code rules decoded kinds numbers i kind number
     ≡ slice_index_or (decoded_each decoded kinds numbers) i (decoded kind number)
+
+-- where a path meets another, what is known has this kind and keeps its number, whatever the numbers are; and it is
+-- another kind only where something else is known
+pub record IsJoinedKind {K : Type 0} (rules : Rules K) (decoded : ℕ → ℤ → K) (kind other met : ℕ)
+    : Type 0 where
+  pub joined : (n m : ℤ) → rules.joined (decoded kind n) (decoded other m) ≡ decoded met n
+  pub stays : (n : ℤ) → decoded met n ≡ decoded kind n → met ≡ kind

@@ -33,6 +33,13 @@ pub trait Coded: Copy + Drop {
     fn of_code(kind: u8, number: &i64) -> Self
         ensures { result ≡ decoded kind number.now };
 
+    /// Whether it is seen that a kind stands for the same with any number.
+    fn tells_all(kind: u8) -> bool
+        ensures { result ≡ true → (n m : ℤ) → decoded kind n ≡ decoded kind m }
+    {
+        false
+    }
+
     ghost stands: { (x : Self) → decoded (kind_of x) (number_of x) ≡ x };
 }
 
@@ -189,6 +196,20 @@ impl<K: Knowledge> Facts<K> {
 
     /// As `join_from`, and puts each variable of which more may be known then among the news.
     pub(crate) fn join_noting(&mut self, other: &Facts<K>, news: &mut StateNews) -> bool
+        requires { length other.now ≡ length self.old }
+        ensures joined { self.new ≡ joined_each K.rules.joined self.old other.now }
+        ensures unchanged { (result ≡ false) ↔ (self.new ≡ self.old) }
+        ensures keeps { KeepsRaised K.rules news.old self.old news.new self.new }
+    {
+        if news.are_all() {
+            self.join_from(other)
+        } else {
+            self.join_listed(other, news)
+        }
+    }
+
+    /// The same where not all is news yet.
+    fn join_listed(&mut self, other: &Facts<K>, news: &mut StateNews) -> bool
         requires { length other.now ≡ length self.old }
         ensures joined { self.new ≡ joined_each K.rules.joined self.old other.now }
         ensures unchanged { (result ≡ false) ↔ (self.new ≡ self.old) }
@@ -420,7 +441,7 @@ fn join_one<K: Knowledge>(
 }
 
 /// Turns what is known of one variable into what is known where two paths meet, and answers whether that changed. Where
-/// the codes are the same it did not.
+/// the codes stand for the same it did not.
 fn join_at<K: Knowledge>(
     kinds: &mut [u8],
     numbers: &mut [i64],
@@ -437,15 +458,38 @@ fn join_at<K: Knowledge>(
     ensures unchanged { (result ≡ false)
         ↔ StaysCode K.rules K.decoded kinds.old numbers.old i kind number.now }
 {
-    if kinds[i] == kind && is_number(&numbers[i], number) {
+    if is_code::<K>(kinds[i], &numbers[i], kind, number) {
         false
     } else {
         join_other::<K>(kinds, numbers, i, kind, number)
     }
 }
 
-/// The same where the codes may differ.
+/// The same where the codes may differ: by the kinds alone, if these tell it.
 fn join_other<K: Knowledge>(
+    kinds: &mut [u8],
+    numbers: &mut [i64],
+    i: usize,
+    kind: u8,
+    number: &i64,
+) -> bool
+    requires there { i < length kinds.old }
+    requires long { length numbers.old ≡ length kinds.old }
+    ensures long { length kinds.new ≡ length kinds.old }
+    ensures numbers_long { length numbers.new ≡ length numbers.old }
+    ensures joined { JoinedCode K.rules K.decoded kinds.old numbers.old i kind number.now
+        (decoded_each K.decoded kinds.new numbers.new) }
+    ensures unchanged { (result ≡ false)
+        ↔ StaysCode K.rules K.decoded kinds.old numbers.old i kind number.now }
+{
+    match K::joined_kind(kinds[i], kind) {
+        Some(met) => put_kind(kinds, i, met),
+        None => join_decoded::<K>(kinds, numbers, i, kind, number),
+    }
+}
+
+/// The same by what the codes stand for.
+fn join_decoded<K: Knowledge>(
     kinds: &mut [u8],
     numbers: &mut [i64],
     i: usize,
@@ -471,9 +515,21 @@ fn join_other<K: Knowledge>(
     }
 }
 
-/// Whether a number is this one.
-fn is_number(there: &i64, number: &i64) -> bool
-    ensures { result ≡ true → there.now ≡ number.now }
+/// Sets the kind of a variable, and answers whether it changed.
+fn put_kind(kinds: &mut [u8], i: usize, kind: u8) -> bool
+    requires { i < length kinds.old }
+    ensures kinds { kinds.new ≡ slice_set kinds.old i kind }
+    ensures unchanged { (result ≡ false) ↔ (kind ≡ slice_index_or kinds.old i 0) }
 {
-    *there == *number
+    let before = kinds[i];
+    kinds[i] = kind;
+    before != kind
+}
+
+/// Whether it is seen by two codes that they stand for the same. It looks at numbers only where the kinds do not tell
+/// it.
+fn is_code<K: Coded>(kind: u8, number: &i64, other: u8, other_number: &i64) -> bool
+    ensures { result ≡ true → K.decoded kind number.now ≡ K.decoded other other_number.now }
+{
+    kind == other && (K::tells_all(kind) || *number == *other_number)
 }

@@ -80,27 +80,39 @@ impl<'a, K: Knowledge, L: Ledger> Flow for StateFlow<'a, K, L> {
         Ok(news)
     }
 
+    fn room(&self, alloc: Global) -> Result<Facts<K>, Memory> {
+        let room = self.zeros.copied(alloc)?;
+        Ok(room)
+    }
+
     fn push(
         &self,
         number: usize,
         _target: usize,
         from: &BlockState<K>,
         into: &mut BlockState<K>,
+        room: &mut Facts<K>,
         steps: &mut Steps<L>,
     ) -> bool {
         steps.tick();
         if from.reached {
-            self.push_known(number, &from.known, into)
+            self.push_known(number, &from.known, into, room)
         } else {
             false
         }
     }
 
-    fn push_self(&self, number: usize, value: &mut BlockState<K>, steps: &mut Steps<L>) -> bool {
+    fn push_self(
+        &self,
+        number: usize,
+        value: &mut BlockState<K>,
+        room: &mut Facts<K>,
+        steps: &mut Steps<L>,
+    ) -> bool {
         steps.tick();
         if value.reached {
-            let passes = self.pass(number, &value.known, &mut value.room);
-            join_where(passes, &mut value.known, &value.room)
+            let passes = self.pass(number, &value.known, room);
+            join_where(passes, &mut value.known, room)
         } else {
             false
         }
@@ -114,22 +126,16 @@ impl<'a, K: Knowledge, L: Ledger> Flow for StateFlow<'a, K, L> {
         news: &StateNews,
         into: &mut BlockState<K>,
         into_news: &mut StateNews,
+        room: &mut Facts<K>,
         steps: &mut Steps<L>,
     ) -> bool {
         if self.is_whole(from.reached, into.reached) {
-            let changed = self.push(number, target, from, into, steps);
+            let changed = self.push(number, target, from, into, room, steps);
             renew_if(changed, into_news);
             changed
         } else {
             steps.tick();
-            self.join_news(
-                number,
-                &from.known,
-                news,
-                &mut into.room,
-                &mut into.known,
-                into_news,
-            )
+            self.join_news(number, &from.known, news, room, &mut into.known, into_news)
         }
     }
 
@@ -138,15 +144,16 @@ impl<'a, K: Knowledge, L: Ledger> Flow for StateFlow<'a, K, L> {
         number: usize,
         value: &mut BlockState<K>,
         news: &mut StateNews,
+        room: &mut Facts<K>,
         steps: &mut Steps<L>,
     ) -> bool {
         if self.is_whole(value.reached, value.reached) {
-            let changed = self.push_self(number, value, steps);
+            let changed = self.push_self(number, value, room, steps);
             renew_if(changed, news);
             changed
         } else {
             steps.tick();
-            self.join_round(number, &mut value.known, &mut value.room, news)
+            self.join_round(number, &mut value.known, room, news)
         }
     }
 
@@ -157,18 +164,26 @@ impl<'a, K: Knowledge, L: Ledger> Flow for StateFlow<'a, K, L> {
 
 impl<'a, K: Knowledge, L: Ledger> StateFlow<'a, K, L> {
     /// Joins what passes along an edge of a block that is reached, before which this is known, and answers whether the
-    /// state has changed. Where a block is reached first, its own list is what passes.
-    fn push_known(&self, number: usize, known: &Facts<K>, into: &mut BlockState<K>) -> bool
+    /// state has changed. There is room for what passes; where a block is reached first, it goes into its own list.
+    fn push_known(
+        &self,
+        number: usize,
+        known: &Facts<K>,
+        into: &mut BlockState<K>,
+        room: &mut Facts<K>,
+    ) -> bool
         requires valid { IsStateFlow K.rules self.now }
         requires in_range { number < length self.now.targets.now }
         requires long { length known.now ≡ size_of into.old }
+        requires fits { length room.old ≡ length known.now }
+        ensures room { length room.new ≡ length room.old }
         ensures joined { IsLeastUpper (BelowState K.below) into.old
             ((net_of K.rules self.now).transfer number (state_where true known.now)) into.new }
         ensures unchanged { (result ≡ false) ↔ (into.new ≡ into.old) }
     {
         if into.reached {
-            let passes = self.pass(number, known, &mut into.room);
-            join_where(passes, &mut into.known, &into.room)
+            let passes = self.pass(number, known, room);
+            join_where(passes, &mut into.known, room)
         } else {
             let passes = self.pass(number, known, &mut into.known);
             into.reached = passes;

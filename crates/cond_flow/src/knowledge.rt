@@ -1,5 +1,6 @@
 // What may be known of a variable, and the rules that go with it.
-ghost use Rattle.std.specs.Prelude.{◌≡◌, ℤ, true};
+ghost use Rattle.std.specs.Prelude.{◌≡◌, ℤ, true, IfSome};
+ghost use Rattle.cond_flow.specs.FactLists.{IsJoinedKind};
 ghost use Rattle.cond_flow.specs.Rules.{LawfulRules, Rules, open_outside};
 
 use crate::{Coded, Facts};
@@ -25,6 +26,13 @@ pub trait Knowledge: Coded {
     /// What is known where two paths meet.
     fn joined(self, other: Self) -> Self
         ensures { result ≡ rules.joined self other };
+
+    /// The kind of what is known where two paths meet, if it is seen by the two kinds; the first number stays.
+    fn joined_kind(kind: u8, other: u8) -> Option<u8>
+        ensures { IfSome result (IsJoinedKind rules Self.decoded kind other) }
+    {
+        None
+    }
 
     /// Whether the same is known.
     fn is_same(self, other: Self) -> bool

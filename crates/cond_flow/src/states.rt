@@ -6,29 +6,24 @@ ghost use Rattle.cond_flow.specs.StateLaws.{state_laws};
 
 use crate::news::StateNews;
 use crate::{Facts, Knowledge};
-use fix_solve::Lattice;
+use fix_solve::{Lattice, Room};
 use mir_base::Memory;
 use std::alloc::Global;
 use std::marker::Model;
 
-/// Whether a block is reached, what is known of each variable before it where it is, and room for as much, so that what
-/// passes along an edge needs no memory. Contracts see it as the state.
+/// Whether a block is reached, and what is known of each variable before it where it is. Contracts see it as the state.
 #[derive(Drop)]
 pub(crate) struct BlockState<K: Knowledge> {
     pub(crate) reached: bool,
     pub(crate) known: Facts<K>,
-    pub(crate) room: Facts<K>,
 }
 
 impl<K: Knowledge> Model for BlockState<K> {
-    ghost use Rattle.std.specs.Prelude.{◌≡◌, length};
     ghost use Rattle.cond_flow.specs.States.{NodeState, state_where};
 
     ghost Value = { NodeState K };
 
     ghost view = { λ s. state_where s.reached s.known };
-
-    ghost invariant = { λ s. length s.room ≡ length s.known };
 }
 
 impl<K: Knowledge> BlockState<K> {
@@ -40,13 +35,8 @@ impl<K: Knowledge> BlockState<K> {
     ) -> Result<BlockState<K>, Memory>
         ensures { IfOk result (λ state. state ≡ state_where reached known.now) }
     {
-        let room = known.copied(alloc)?;
         let known = known.copied(alloc)?;
-        Ok(BlockState {
-            reached,
-            known,
-            room,
-        })
+        Ok(BlockState { reached, known })
     }
 
     /// Joins what is known where a path meets this one, or takes it where the block was not reached, and answers
@@ -67,8 +57,14 @@ impl<K: Knowledge> BlockState<K> {
     }
 }
 
+impl<K: Knowledge> Room for Facts<K> {
+    ghost fits = { λ room size. length room ≡ size };
+}
+
 impl<K: Knowledge> Lattice for BlockState<K> {
     type News = StateNews;
+
+    type Room = Facts<K>;
 
     ghost below = { BelowState K.below };
 

@@ -11,11 +11,10 @@ pairs [] ys = []
 pairs (x ∷ xs) [] = []
 pairs (x ∷ xs) (y ∷ ys) = (x, y) ∷ pairs xs ys
 
--- four rows have equally many bits
-pub record AreRoomy (first second room other : List Bool) : Type 0 where
-  pub second_long : length second ≡ length first
-  pub room_long : length room ≡ length first
-  pub other_long : length other ≡ length first
+-- two rows have so many bits
+pub record HasBits (first second : List Bool) (bits : ℕ) : Type 0 where
+  pub first_long : length first ≡ bits
+  pub second_long : length second ≡ bits
 
 -- what is known in the first is known in the second
 abbrev pub BelowSlot : Bool × Bool → Bool × Bool → Type 0

@@ -60,12 +60,16 @@ impl<'a, L: Ledger> Flow for SlotFlow<'a, L> {
         let first = lacks(self.graph, node, 0);
         let second = lacks(self.graph, node, 1);
         let known = row_pair(alloc, self.bits, first, second)?;
-        let room = row_pair(alloc, self.bits, false, false)?;
-        Ok(Slots { known, room })
+        Ok(Slots { known })
     }
 
     fn news(&self, _alloc: Global) -> Result<AllNews, Memory> {
         Ok(AllNews)
+    }
+
+    fn room(&self, alloc: Global) -> Result<RowPair, Memory> {
+        let room = row_pair(alloc, self.bits, false, false)?;
+        Ok(room)
     }
 
     fn push(
@@ -74,19 +78,26 @@ impl<'a, L: Ledger> Flow for SlotFlow<'a, L> {
         _target: usize,
         from: &Slots,
         into: &mut Slots,
+        room: &mut RowPair,
         steps: &mut Steps<L>,
     ) -> bool {
         steps.tick();
         let edge = self.edges.entering_edge(number);
-        self.bring(edge.target, &from.known, &mut into.room);
-        self.join(edge, &mut into.known, &into.room.first.view())
+        self.bring(edge.target, &from.known, room);
+        self.join(edge, &mut into.known, &room.first.view())
     }
 
-    fn push_self(&self, number: usize, value: &mut Slots, steps: &mut Steps<L>) -> bool {
+    fn push_self(
+        &self,
+        number: usize,
+        value: &mut Slots,
+        room: &mut RowPair,
+        steps: &mut Steps<L>,
+    ) -> bool {
         steps.tick();
         let edge = self.edges.entering_edge(number);
-        self.bring(edge.target, &value.known, &mut value.room);
-        self.join(edge, &mut value.known, &value.room.first.view())
+        self.bring(edge.target, &value.known, room);
+        self.join(edge, &mut value.known, &room.first.view())
     }
 
     ghost laws = { slot_flow_laws };

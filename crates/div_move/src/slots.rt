@@ -1,20 +1,24 @@
 // Which successors of a node are known to be down, as values of a flow.
 ghost use Rattle.std.specs.Prelude.{◌≡◌, ◌↔◌, false, length, replicate, if◌then◌else◌, IfOk};
 ghost use Rattle.bit_rows.specs.Bits.{or_bits};
-ghost use Rattle.div_move.specs.Slots.{BelowSlots, pairs, slots_rank};
+ghost use Rattle.div_move.specs.Slots.{BelowSlots, HasBits, pairs, slots_rank};
 ghost use Rattle.div_move.specs.SlotLaws.{slots_laws};
 
 use bit_rows::{Row, RowView};
-use fix_solve::{AllNews, Lattice};
+use fix_solve::{AllNews, Lattice, Room};
 use mir_base::Memory;
 use std::alloc::Global;
 use std::marker::Model;
 
 /// Two rows of equally many bits.
 #[derive(Drop)]
-pub(crate) struct RowPair {
+pub struct RowPair {
     pub(crate) first: Row,
     pub(crate) second: Row,
+}
+
+impl Room for RowPair {
+    ghost fits = { λ pair bits. HasBits pair.first pair.second bits };
 }
 
 /// Two rows of so many bits, in the first of which each is `first`, and in the second `second`.
@@ -44,23 +48,21 @@ fn row_of(alloc: Global, bits: usize, value: bool) -> Result<Row, Memory>
 }
 
 /// For each expression, which of a node's two slots are known to lead to a node that is down (a run must come to the
-/// division). `room` is as large and scratch, so that a push does not allocate. Contracts see a pair of bits for each
-/// expression.
+/// division). Contracts see a pair of bits for each expression.
 #[derive(Drop)]
 pub struct Slots {
     pub(crate) known: RowPair,
-    pub(crate) room: RowPair,
 }
 
 impl Model for Slots {
     ghost use Rattle.std.specs.Prelude.{◌≡◌, Bool, List, length};
-    ghost use Rattle.div_move.specs.Slots.{AreRoomy, pairs};
+    ghost use Rattle.div_move.specs.Slots.{pairs};
 
     ghost Value = { List (Bool × Bool) };
 
     ghost view = { λ s. pairs s.known.first s.known.second };
 
-    ghost invariant = { λ s. AreRoomy s.known.first s.known.second s.room.first s.room.second };
+    ghost invariant = { λ s. length s.known.second ≡ length s.known.first };
 }
 
 impl Slots {
@@ -75,6 +77,8 @@ impl Slots {
 
 impl Lattice for Slots {
     type News = AllNews;
+
+    type Room = RowPair;
 
     ghost below = { BelowSlots };
 

@@ -5,7 +5,7 @@ use Rattle.std.proofs.lemmas.List.{get_or_default, length-set}
 use Rattle.fix_solve.specs.Order.{OrderLaws}
 use Rattle.fix_solve.specs.Net.{Net, NetLaws, value_at}
 use Rattle.fix_solve.specs.NewsFlows.{NewsLaws, Keeps, NewsFit, AreAllNew, Telling}
-use Rattle.fix_solve.specs.Solving.{Working, Pushed, AllDone, HaveNews}
+use Rattle.fix_solve.specs.Solving.{HasRoom, IsRoomy, Working, Pushed, AllDone, HaveNews}
 use Rattle.fix_solve.proofs.Visits.{working_sizes}
 
 -- ---- news that fit
@@ -54,6 +54,21 @@ news_from {A = A} fits size net values news len sizes fit =
       long = fit.long ∙ sym len;
       fit = λ d c n h. rw (sized d n h) (fit.each c n (rw (← len) h));
     }
+
+-- the room fits the flow's size where it fits the values, which have it, and the other way round
+pub roomy_from : {V R : Type 0} (fits : R → ℕ → Type 0) (size : V → ℕ) (net : Net V) (values : List V) (room : R) → length values ≡ net.nodes
+    → ((n : ℕ) → n < net.nodes → size (value_at net values n) ≡ net.size) → HasRoom size fits values room → IsRoomy fits net.nodes net.size room
+roomy_from fits size net values room len sizes has n h = rw (sizes n h) at (has.each (net.first n) n (rw len h))
+
+-- the other way
+pub room_from : {V R : Type 0} (fits : R → ℕ → Type 0) (size : V → ℕ) (net : Net V) (values : List V) (room : R) → length values ≡ net.nodes
+    → ((n : ℕ) → n < net.nodes → size (value_at net values n) ≡ net.size) → IsRoomy fits net.nodes net.size room → HasRoom size fits values room
+room_from {V = V} fits size net values room len sizes roomy = record {
+  each = λ d n h.
+      let low : n < net.nodes = rw (← len) h in
+      let sized : size (get_or values n d) ≡ net.size = rw (get_or_default values n d (net.first n) h) (sizes n low) in
+      rw sized (roomy n low);
+}
 
 module _ {V N : Type 0} (below : V → V → Type 0) (size : V → ℕ) (rank : V → ℕ) (order : OrderLaws below size rank) (net : Net V) (laws : NetLaws below size rank net)
     (fits : N → ℕ → Type 0) (is_all : N → Type 0) (is_none : N → Type 0) (caught : ℕ → N → V → V → Type 0) (tells : NewsLaws below size fits is_all is_none net caught) where

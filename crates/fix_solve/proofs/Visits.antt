@@ -1,5 +1,5 @@
 -- One push, and the begin and the end of a visit, at the lists that the code holds.
-use Rattle.std.proofs.Common.{◌≡◌, ◌≢◌, ℕ, ◌+◌, ◌<◌, ◌≤◌, Bool, true, false, ◌||◌, ◌&&◌, not, eqb, List, ◌∷◌, length, sym, inl, inr, ◌∙◌, get_or-set_other}
+use Rattle.std.proofs.Common.{◌≡◌, ◌≢◌, ℕ, ◌+◌, ◌<◌, ◌≤◌, Bool, true, false, ◌||◌, ◌&&◌, not, eqb, List, sym, inl, inr, ◌∙◌, get_or-set_other}
 use Rattle.std.proofs.lemmas.Bool.{cases_eq, or_parts}
 use Rattle.std.proofs.lemmas.List.{length-set}
 use Rattle.fix_solve.specs.Order.{OrderLaws}
@@ -8,7 +8,7 @@ use Rattle.fix_solve.specs.Solving.{Working, Pushed, AllDone, load, degree, node
 use Rattle.fix_solve.proofs.Solves.{push_solves, visit_begins, visit_ends, start_solves, size_above}
 use Rattle.fix_solve.proofs.Loads.{load_push, load_take}
 use Rattle.fix_solve.proofs.Waiting.{leaves_other, leaves_here}
-use Rattle.node_list.specs.Lists.{is_listed, list_at}
+use Rattle.node_list.specs.Lists.{is_listed}
 
 -- without a node fewer pushes are left to do, and fewer visits
 pub record LessLeft {V : Type 0} (net : Net V) (rank : V → ℕ) (values : List V) (waits waits' : ℕ → Bool) (node : ℕ) : Type 0 where

@@ -22,6 +22,15 @@ pub record HaveNews {V N : Type 0} (size : V → ℕ) (fits : N → ℕ → Type
   pub fit : (d : V) (c : N) (n : ℕ) → n < length values
       → fits (slice_index_or news n c) (size (slice_index_or values n d))
 
+-- where there are values of this size there is room for one
+abbrev pub IsRoomy : {R : Type 0} → (R → ℕ → Type 0) → ℕ → ℕ → R → Type 0
+IsRoomy fits nodes size room = (n : ℕ) → n < nodes → fits room size
+
+-- there is room for each value
+pub record HasRoom {V R : Type 0} (size : V → ℕ) (fits : R → ℕ → Type 0) (values : List V)
+    (room : R) : Type 0 where
+  pub each : (d : V) (n : ℕ) → n < length values → fits room (size (slice_index_or values n d))
+
 -- the values lie above the first ones and arise, and they lie above the transfer along each edge that is done and whose
 -- source does not wait
 pub record Solving {V : Type 0} (below : V → V → Type 0) (net : Net V) (values : ℕ → V)

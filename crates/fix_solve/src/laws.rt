@@ -4,7 +4,7 @@ ghost use Rattle.fix_solve.specs.Order.{OrderLaws, IsLeastUpper};
 ghost use Rattle.fix_solve.specs.Net.{Joins, JoinsItself, Net, NetLaws};
 ghost use Rattle.fix_solve.specs.NewsFlows.{Keeps, NewsLaws, Untold};
 
-use crate::{Memory, News, Steps};
+use crate::{Memory, News, Room, Steps};
 use std::alloc::Global;
 use std::sync::ledger::Ledger as Counted;
 
@@ -12,6 +12,9 @@ use std::sync::ledger::Ledger as Counted;
 pub trait Lattice {
     /// What of a value is news, where a flow tells it; else `AllNews`.
     type News: News;
+
+    /// Room for a value on its way along an edge, where a push wants it; else `NoRoom`.
+    type Room: Room;
 
     ghost below: { Self → Self → Type 0 };
 
@@ -81,6 +84,11 @@ pub trait Flow {
         requires { valid self.now }
         ensures { IfOk result (λ news. Self.Value.News.fits news (net self.now).size) };
 
+    /// Room for a value of this flow, which each push is given. It fails only with `Memory`.
+    fn room(&self, alloc: Global) -> Result<<Self::Value as Lattice>::Room, Memory>
+        requires { valid self.now }
+        ensures { IfOk result (λ room. Self.Value.Room.fits room (net self.now).size) };
+
     /// Replaces `into` by its least upper bound with the transfer of `from` along the edge of this number and target,
     /// answers whether `into` changed, and adds one to the counter. It does not allocate.
     fn push(
@@ -89,6 +97,7 @@ pub trait Flow {
         target: usize,
         from: &Self::Value,
         into: &mut Self::Value,
+        room: &mut <Self::Value as Lattice>::Room,
         steps: &mut Steps<Self::Ledger>,
     ) -> bool
         requires valid { valid self.now }
@@ -96,6 +105,8 @@ pub trait Flow {
         requires target { target ≡ (net self.now).target number }
         requires from_size { Self.Value.size from.now ≡ (net self.now).size }
         requires into_size { Self.Value.size into.old ≡ (net self.now).size }
+        requires room { Self.Value.Room.fits room.old (net self.now).size }
+        ensures room { Self.Value.Room.fits room.new (net self.now).size }
         ensures joined { Joins Self.Value.below (net self.now) number from.now into.old into.new }
         ensures unchanged { (result ≡ false) ↔ (into.new ≡ into.old) }
         ensures counted { steps.new ≡ steps.old + 1 };
@@ -106,11 +117,14 @@ pub trait Flow {
         &self,
         number: usize,
         value: &mut Self::Value,
+        room: &mut <Self::Value as Lattice>::Room,
         steps: &mut Steps<Self::Ledger>,
     ) -> bool
         requires valid { valid self.now }
         requires in_range { number < (net self.now).edges }
         requires size { Self.Value.size value.old ≡ (net self.now).size }
+        requires room { Self.Value.Room.fits room.old (net self.now).size }
+        ensures room { Self.Value.Room.fits room.new (net self.now).size }
         ensures joined { JoinsItself Self.Value.below (net self.now) number value.old value.new }
         ensures unchanged { (result ≡ false) ↔ (value.new ≡ value.old) }
         ensures counted { steps.new ≡ steps.old + 1 };
@@ -127,6 +141,7 @@ pub trait Flow {
         news: &<Self::Value as Lattice>::News,
         into: &mut Self::Value,
         into_news: &mut <Self::Value as Lattice>::News,
+        room: &mut <Self::Value as Lattice>::Room,
         steps: &mut Steps<Self::Ledger>,
     ) -> bool
         requires valid { valid self.now }
@@ -137,6 +152,8 @@ pub trait Flow {
         requires from_fit { Self.Value.News.fits news.now (net self.now).size }
         requires into_fit { Self.Value.News.fits into_news.old (net self.now).size }
         requires caught { caught self.now number news.now from.now into.old }
+        requires room { Self.Value.Room.fits room.old (net self.now).size }
+        ensures room { Self.Value.Room.fits room.new (net self.now).size }
         ensures joined { Joins Self.Value.below (net self.now) number from.now into.old into.new }
         ensures unchanged { (result ≡ false) ↔ (into.new ≡ into.old) }
         ensures keeps { Keeps (net self.now) (caught self.now) ((net self.now).target number)
@@ -144,7 +161,7 @@ pub trait Flow {
         ensures fit { Self.Value.News.fits into_news.new (net self.now).size }
         ensures counted { steps.new ≡ steps.old + 1 }
     {
-        let changed = self.push(number, target, from, into, steps);
+        let changed = self.push(number, target, from, into, room, steps);
         if changed {
             into_news.renew();
         }
@@ -157,6 +174,7 @@ pub trait Flow {
         number: usize,
         value: &mut Self::Value,
         news: &mut <Self::Value as Lattice>::News,
+        room: &mut <Self::Value as Lattice>::Room,
         steps: &mut Steps<Self::Ledger>,
     ) -> bool
         requires valid { valid self.now }
@@ -164,6 +182,8 @@ pub trait Flow {
         requires size { Self.Value.size value.old ≡ (net self.now).size }
         requires fit { Self.Value.News.fits news.old (net self.now).size }
         requires caught { caught self.now number news.old value.old value.old }
+        requires room { Self.Value.Room.fits room.old (net self.now).size }
+        ensures room { Self.Value.Room.fits room.new (net self.now).size }
         ensures joined { JoinsItself Self.Value.below (net self.now) number value.old value.new }
         ensures unchanged { (result ≡ false) ↔ (value.new ≡ value.old) }
         ensures keeps { Keeps (net self.now) (caught self.now) ((net self.now).target number)
@@ -171,7 +191,7 @@ pub trait Flow {
         ensures fit { Self.Value.News.fits news.new (net self.now).size }
         ensures counted { steps.new ≡ steps.old + 1 }
     {
-        let changed = self.push_self(number, value, steps);
+        let changed = self.push_self(number, value, room, steps);
         if changed {
             news.renew();
         }

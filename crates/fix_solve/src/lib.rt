@@ -15,11 +15,13 @@ mod laws;
 mod news_kinds;
 mod order;
 mod pushes;
+mod room;
 mod steps;
 mod work;
 
 pub use laws::{Flow, Lattice};
 pub use news_kinds::{AllNews, News};
+pub use room::{NoRoom, Room};
 pub use steps::Steps;
 pub use work::{Work, solve};
 

@@ -5,7 +5,7 @@ ghost use Rattle.node_list.specs.Lists.{NoLongerLists, is_listed, list_at};
 ghost use Rattle.fix_solve.specs.Net.{AreOfSize, HoldsFirst, HoldsLeast, most_pushes};
 ghost use Rattle.fix_solve.specs.NewsFlows.{AreAllNew, NewsFit, Telling};
 ghost use Rattle.fix_solve.specs.OrderWalks.{AreNodes};
-ghost use Rattle.fix_solve.specs.Solving.{AllDone, AllDoneBut, HaveNews, CanWait, IsOneList, Pushed, Working, degree, nodes_left, pushes_left};
+ghost use Rattle.fix_solve.specs.Solving.{AllDone, AllDoneBut, HasRoom, HaveNews, CanWait, IsOneList, IsRoomy, Pushed, Working, degree, nodes_left, pushes_left};
 
 use crate::ends::Ends;
 use crate::{Flow, Lattice, News, Steps};
@@ -15,6 +15,7 @@ use node_list::Links;
 pub(crate) fn solve_from<F: Flow>(
     values: &mut [F::Value],
     news: &mut [<F::Value as Lattice>::News],
+    room: &mut <F::Value as Lattice>::Room,
     waiting: &mut Links,
     ends: &mut Ends,
     order: &[usize],
@@ -25,9 +26,11 @@ pub(crate) fn solve_from<F: Flow>(
     requires first { HoldsFirst (F.net flow.now) values.old }
     requires can_wait { CanWait waiting.old values.old order.now }
     requires have_news { HaveNews F.Value.size F.Value.News.fits values.old news.old }
+    requires has_room { HasRoom F.Value.size F.Value.Room.fits values.old room.old }
     ensures len { length values.new ≡ (F.net flow.now).nodes }
     ensures can_wait { CanWait waiting.new values.new order.now }
     ensures have_news { HaveNews F.Value.size F.Value.News.fits values.new news.new }
+    ensures has_room { HasRoom F.Value.size F.Value.Room.fits values.new room.new }
     ensures sizes { AreOfSize F.Value.size (F.net flow.now) values.new }
     ensures least { HoldsLeast F.Value.below (F.net flow.now) values.new }
     ensures pushes { steps.new ≤ steps.old + most_pushes (F.net flow.now) }
@@ -37,7 +40,7 @@ pub(crate) fn solve_from<F: Flow>(
     enlist_all(waiting, order, nodes);
     renew_each(news);
     ends.restart();
-    drain(values, news, waiting, ends, flow, steps);
+    drain(values, news, room, waiting, ends, flow, steps);
 }
 
 /// Marks the whole of each value as news: nothing of it has been pushed yet.
@@ -112,6 +115,7 @@ fn enlist_up(waiting: &mut Links, nodes: usize)
 fn drain<F: Flow>(
     values: &mut [F::Value],
     news: &mut [<F::Value as Lattice>::News],
+    room: &mut <F::Value as Lattice>::Room,
     waiting: &mut Links,
     ends: &mut Ends,
     flow: &F,
@@ -123,11 +127,13 @@ fn drain<F: Flow>(
     requires working { Working F.Value.below (F.net flow.now) values.old
         (is_listed waiting.old.lists) AllDone }
     requires fit { NewsFit F.Value.News.fits (F.net flow.now).nodes (F.net flow.now).size news.old }
+    requires room { IsRoomy F.Value.Room.fits (F.net flow.now).nodes (F.net flow.now).size room.old }
     requires telling { Telling (F.net flow.now) (F.caught flow.now) values.old news.old }
     ensures one_list { IsOneList waiting.new }
     ensures nodes { waiting.new.nodes ≡ (F.net flow.now).nodes }
     ensures len { length values.new ≡ (F.net flow.now).nodes }
     ensures fit { NewsFit F.Value.News.fits (F.net flow.now).nodes (F.net flow.now).size news.new }
+    ensures room { IsRoomy F.Value.Room.fits (F.net flow.now).nodes (F.net flow.now).size room.new }
     ensures sizes { AreOfSize F.Value.size (F.net flow.now) values.new }
     ensures least { HoldsLeast F.Value.below (F.net flow.now) values.new }
     ensures pushes { steps.new ≤ steps.old
@@ -136,7 +142,7 @@ fn drain<F: Flow>(
 {
     let nodes = values.len();
     while let Some(node) = take(waiting, ends, nodes) {
-        visit(values, news, waiting, flow, node, steps);
+        visit(values, news, room, waiting, flow, node, steps);
         ends.note(waiting, flow, node, nodes);
     }
 }
@@ -190,6 +196,7 @@ fn end_of(ends: &mut Ends, waiting: &Links, nodes: usize) -> Option<usize>
 fn visit<F: Flow>(
     values: &mut [F::Value],
     news: &mut [<F::Value as Lattice>::News],
+    room: &mut <F::Value as Lattice>::Room,
     waiting: &mut Links,
     flow: &F,
     node: usize,
@@ -202,12 +209,14 @@ fn visit<F: Flow>(
     requires working { Working F.Value.below (F.net flow.now) values.old
         (is_listed waiting.old.lists) (AllDoneBut (F.net flow.now) node) }
     requires fit { NewsFit F.Value.News.fits (F.net flow.now).nodes (F.net flow.now).size news.old }
+    requires room { F.Value.Room.fits room.old (F.net flow.now).size }
     requires telling { Telling (F.net flow.now) (F.caught flow.now) values.old news.old }
     ensures one_list { IsOneList waiting.new }
     ensures nodes { waiting.new.nodes ≡ waiting.old.nodes }
     ensures working { Working F.Value.below (F.net flow.now) values.new
         (is_listed waiting.new.lists) AllDone }
     ensures fit { NewsFit F.Value.News.fits (F.net flow.now).nodes (F.net flow.now).size news.new }
+    ensures room { F.Value.Room.fits room.new (F.net flow.now).size }
     ensures telling { Telling (F.net flow.now) (F.caught flow.now) values.new news.new }
     ensures pushes { steps.new
         + pushes_left (F.net flow.now) F.Value.rank values.new (is_listed waiting.new.lists)
@@ -221,7 +230,7 @@ fn visit<F: Flow>(
     let (start, stop) = flow.out(node);
     for number in start..stop {
         let (source, target) = flow.edge(number);
-        let changed = push_along(values, news, flow, number, source, target, steps);
+        let changed = push_along(values, news, room, flow, number, source, target, steps);
         enlist(waiting, target, changed);
     }
     // Along an edge to itself the node may have changed: then it waits again, with all its news.
@@ -234,6 +243,7 @@ fn visit<F: Flow>(
 fn push_along<F: Flow>(
     values: &mut [F::Value],
     news: &mut [<F::Value as Lattice>::News],
+    room: &mut <F::Value as Lattice>::Room,
     flow: &F,
     number: usize,
     source: usize,
@@ -247,14 +257,16 @@ fn push_along<F: Flow>(
     requires len { length values.old ≡ (F.net flow.now).nodes }
     requires sizes { AreOfSize F.Value.size (F.net flow.now) values.old }
     requires fit { NewsFit F.Value.News.fits (F.net flow.now).nodes (F.net flow.now).size news.old }
+    requires room { F.Value.Room.fits room.old (F.net flow.now).size }
     requires telling { Telling (F.net flow.now) (F.caught flow.now) values.old news.old }
     ensures fit { NewsFit F.Value.News.fits (F.net flow.now).nodes (F.net flow.now).size news.new }
+    ensures room { F.Value.Room.fits room.new (F.net flow.now).size }
     ensures telling { Telling (F.net flow.now) (F.caught flow.now) values.new news.new }
     ensures pushed { Pushed F.Value.below (F.net flow.now) number values.old values.new result }
     ensures counted { steps.new ≡ steps.old + 1 }
 {
     if source == target {
-        flow.push_self_news(number, &mut values[target], &mut news[target], steps)
+        flow.push_self_news(number, &mut values[target], &mut news[target], room, steps)
     } else if source < target {
         let (low, high) = values.split_at_mut(target);
         let (low_news, high_news) = news.split_at_mut(target);
@@ -265,6 +277,7 @@ fn push_along<F: Flow>(
             &low_news[source],
             &mut high[0],
             &mut high_news[0],
+            room,
             steps,
         )
     } else {
@@ -277,6 +290,7 @@ fn push_along<F: Flow>(
             &high_news[0],
             &mut low[target],
             &mut low_news[target],
+            room,
             steps,
         )
     }

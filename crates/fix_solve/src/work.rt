@@ -13,12 +13,13 @@ use std::marker::Model;
 
 /// A value for each node. Contracts see it as the list of these.
 ///
-/// It also holds what of each is news, the list of the nodes that wait for a visit, marks by which its ends are found, and
+/// It also holds what of each is news, room for one on its way, the list of the nodes that wait for a visit, marks by which its ends are found, and
 /// the order in which they are first visited, the last first, so that the solver does not allocate.
 #[derive(Drop)]
 pub struct Work<V: Lattice> {
     values: Vec<V>,
     news: Vec<V::News>,
+    room: V::Room,
     waiting: Links,
     ends: Ends,
     order: Vec<usize>,
@@ -26,14 +27,15 @@ pub struct Work<V: Lattice> {
 
 impl<V: Lattice> Model for Work<V> {
     ghost use Rattle.std.specs.Prelude.{List};
-    ghost use Rattle.fix_solve.specs.Solving.{CanWait, HaveNews};
+    ghost use Rattle.fix_solve.specs.Solving.{CanWait, HasRoom, HaveNews};
 
     ghost Value = { List V };
 
     ghost view = { λ work. work.values.items };
 
     ghost invariant = { λ work. CanWait work.waiting work.values.items work.order.items
-        × HaveNews V.size V.News.fits work.values.items work.news.items };
+        × HaveNews V.size V.News.fits work.values.items work.news.items
+        × HasRoom V.size V.Room.fits work.values.items work.room };
 }
 
 impl<V: Lattice + Drop> Work<V> {
@@ -44,12 +46,14 @@ impl<V: Lattice + Drop> Work<V> {
     {
         let values = first_values(alloc, flow)?;
         let news = first_news(alloc, flow)?;
+        let room = flow.room(alloc)?;
         let waiting = Links::new(alloc, flow.nodes(), 1)?;
         let order = order_of(alloc, flow)?;
         let ends = Ends::new(alloc, flow.nodes())?;
         Ok(Work {
             values,
             news,
+            room,
             waiting,
             ends,
             order,
@@ -109,6 +113,7 @@ pub fn solve<F: Flow>(work: &mut Work<F::Value>, flow: &F, steps: &mut Steps<F::
     solve_from(
         &mut work.values,
         &mut work.news,
+        &mut work.room,
         &mut work.waiting,
         &mut work.ends,
         &work.order,

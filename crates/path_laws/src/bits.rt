@@ -11,7 +11,7 @@ use crate::problems::Problem;
 use crate::row_news::{MOST_SHORT, RowNews};
 use crate::summaries::seed_of;
 use bit_rows::{Row, RowView, Rows};
-use fix_solve::{Flow, Lattice, Steps, Work, solve};
+use fix_solve::{Flow, Lattice, NoRoom, Steps, Work, solve};
 use flow_graph::Edge;
 use mir_base::Memory;
 use std::alloc::Global;
@@ -43,6 +43,8 @@ impl Bits {
 
 impl Lattice for Bits {
     type News = RowNews;
+
+    type Room = NoRoom;
 
     ghost below = { BelowBits };
 
@@ -127,12 +129,17 @@ impl<'a, L: Ledger> Flow for BitFlow<'a, L> {
         Ok(news)
     }
 
+    fn room(&self, _alloc: Global) -> Result<NoRoom, Memory> {
+        Ok(NoRoom)
+    }
+
     fn push(
         &self,
         _number: usize,
         target: usize,
         from: &Bits,
         into: &mut Bits,
+        _room: &mut NoRoom,
         steps: &mut Steps<L>,
     ) -> bool {
         steps.tick();
@@ -140,7 +147,13 @@ impl<'a, L: Ledger> Flow for BitFlow<'a, L> {
         into.row.or_minus_from(&from.row.view(), &stop)
     }
 
-    fn push_self(&self, _number: usize, _value: &mut Bits, steps: &mut Steps<L>) -> bool {
+    fn push_self(
+        &self,
+        _number: usize,
+        _value: &mut Bits,
+        _room: &mut NoRoom,
+        steps: &mut Steps<L>,
+    ) -> bool {
         steps.tick();
         false
     }
@@ -153,10 +166,11 @@ impl<'a, L: Ledger> Flow for BitFlow<'a, L> {
         news: &RowNews,
         into: &mut Bits,
         into_news: &mut RowNews,
+        room: &mut NoRoom,
         steps: &mut Steps<L>,
     ) -> bool {
         if self.bits <= MOST_SHORT || (news.are_all() && into_news.are_all()) {
-            return self.push(number, target, from, into, steps);
+            return self.push(number, target, from, into, room, steps);
         }
         steps.tick();
         let stop = self.stops.row(target);

@@ -13,7 +13,7 @@ use crate::news::SomeVariables;
 use crate::picking::Shift;
 use crate::raises::{raise_listed, raise_noting, take_listed};
 use crate::walking::walk_back;
-use fix_solve::{Flow, Steps};
+use fix_solve::{Flow, NoRoom, Steps};
 use flow_graph::{Blocks, Graph};
 use mir_base::Memory;
 use path_laws::BlockEdges;
@@ -72,12 +72,17 @@ impl<'a, L: Ledger> Flow for WantedFlow<'a, L> {
         Ok(news)
     }
 
+    fn room(&self, _alloc: Global) -> Result<NoRoom, Memory> {
+        Ok(NoRoom)
+    }
+
     fn push(
         &self,
         number: usize,
         _target: usize,
         from: &WantedList,
         into: &mut WantedList,
+        _room: &mut NoRoom,
         steps: &mut Steps<L>,
     ) -> bool {
         steps.tick();
@@ -85,7 +90,13 @@ impl<'a, L: Ledger> Flow for WantedFlow<'a, L> {
         raise_each(into.bits.as_mut_slice(), into.room.as_slice())
     }
 
-    fn push_self(&self, number: usize, value: &mut WantedList, steps: &mut Steps<L>) -> bool {
+    fn push_self(
+        &self,
+        number: usize,
+        value: &mut WantedList,
+        _room: &mut NoRoom,
+        steps: &mut Steps<L>,
+    ) -> bool {
         steps.tick();
         self.pass(number, value.bits.as_slice(), &mut value.room);
         raise_each(value.bits.as_mut_slice(), value.room.as_slice())
@@ -99,6 +110,7 @@ impl<'a, L: Ledger> Flow for WantedFlow<'a, L> {
         news: &SomeVariables,
         into: &mut WantedList,
         into_news: &mut SomeVariables,
+        _room: &mut NoRoom,
         steps: &mut Steps<L>,
     ) -> bool {
         steps.tick();
@@ -117,6 +129,7 @@ impl<'a, L: Ledger> Flow for WantedFlow<'a, L> {
         number: usize,
         value: &mut WantedList,
         news: &mut SomeVariables,
+        _room: &mut NoRoom,
         steps: &mut Steps<L>,
     ) -> bool {
         steps.tick();

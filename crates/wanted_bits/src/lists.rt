@@ -3,7 +3,7 @@ ghost use Rattle.std.specs.Prelude.{◌≡◌, ◌↔◌, ◌<◌, ◌≤◌, fa
 ghost use Rattle.wanted_bits.specs.BitsOrder.{BelowLists, HasFew, joined_bits, lists_laws, lists_rank};
 
 use crate::news::SomeVariables;
-use fix_solve::Lattice;
+use fix_solve::{Lattice, NoRoom};
 use mir_base::Memory;
 use std::alloc::Global;
 use std::marker::Model;
@@ -50,6 +50,8 @@ impl WantedList {
 
 impl Lattice for WantedList {
     type News = SomeVariables;
+
+    type Room = NoRoom;
 
     ghost below = { BelowLists };
 

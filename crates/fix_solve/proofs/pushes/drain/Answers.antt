@@ -29,6 +29,7 @@ loop-node-preserved g c =
       nodes = c.visit.ensures.nodes ∙ c.in-Some.ensures.nodes ∙ c.requires.working.len;
       working = c.visit.ensures.working;
       fit = c.visit.ensures.fit;
+      room = λ n h. c.visit.ensures.room;
       telling = c.visit.ensures.telling;
       pushes = omega (arith, less.pushes, inv.pushes, c.visit.ensures.pushes);
     }
@@ -38,3 +39,8 @@ returns-clause-least g c =
     let inv = c.loop-node.invariant in
     end_solves g.F.Value.Lattice.below g.F.Value.Lattice.size g.F.Value.Lattice.rank g.met.F.Value.Lattice.laws (g.F.Flow.net c.args.flow.now) (g.met.F.Flow.laws c.args.flow.now c.requires.valid)
     (value_at (g.F.Flow.net c.args.flow.now) c.loop-node.values) (is_listed c.loop-node.waiting.lists) (λ n h. none_waits c.loop-node.waiting.lists n inv.one_list c.in_default.ensures.empty.0) inv.working.solving
+
+pub visit-requires-clause-room : goal.visit-requires-clause-room
+visit-requires-clause-room g c =
+    let low : c.in-Some.node < length c.args.values.now = c.in-Some.ensures.in_range in
+    c.loop-node.invariant.room c.in-Some.node (rw c.requires.working.len at low)

@@ -1,6 +1,6 @@
 use Rattle.std.proofs.Common.{◌≡◌, ◌+◌, ◌≤◌}
 use Rattle.node_list.specs.Lists.{is_listed}
-use Rattle.fix_solve.specs.Solving.{AllDone, IsOneList, Working, pushes_left, nodes_left}
+use Rattle.fix_solve.specs.Solving.{AllDone, IsOneList, IsRoomy, Working, pushes_left, nodes_left}
 use Rattle.fix_solve.specs.NewsFlows.{NewsFit, Telling}
 use Rattle.fix_solve.proofs.pushes.drain.Given as goal
 
@@ -13,6 +13,7 @@ invariant-loop-node g l =
       nodes : l.waiting.nodes ≡ net.nodes;
       working : Working g.F.Value.Lattice.below net l.values (is_listed l.waiting.lists) AllDone;
       fit : NewsFit g.F.Value.News.News.fits net.nodes net.size l.news;
+      room : IsRoomy g.F.Value.Room.Room.fits net.nodes net.size l.room;
       telling : Telling net (g.F.Flow.caught l.flow) l.values l.news;
       pushes : l.steps + pushes_left net g.F.Value.Lattice.rank l.values (is_listed l.waiting.lists) ≤ l.initial.steps + pushes_left net g.F.Value.Lattice.rank l.initial.values (is_listed l.initial.waiting.lists);
     }

@@ -3,7 +3,7 @@ use Rattle.node_list.specs.Lists.{is_listed}
 use Rattle.fix_solve.specs.Solving.{pushes_left}
 use Rattle.fix_solve.proofs.Loads.{pushes_left_le}
 use Rattle.fix_solve.proofs.Visits.{working_starts}
-use Rattle.fix_solve.proofs.Telling.{fit_from, news_from, telling_starts}
+use Rattle.fix_solve.proofs.Telling.{fit_from, news_from, room_from, roomy_from, telling_starts}
 use Rattle.fix_solve.proofs.pushes.solve_from.Goals as goal
 
 pub returns-clause-pushes : goal.returns-clause-pushes
@@ -42,3 +42,15 @@ pub returns-clause-have_news : goal.returns-clause-have_news
 returns-clause-have_news g c =
     news_from g.F.Value.News.News.fits g.F.Value.Lattice.size (g.F.Flow.net c.args.flow.now) c.drain.new.values c.drain.new.news
     c.drain.ensures.len c.drain.ensures.sizes c.drain.ensures.fit
+
+pub drain-requires-clause-room : goal.drain-requires-clause-room
+drain-requires-clause-room g c =
+    let net = g.F.Flow.net c.args.flow.now in
+    let laws = g.met.F.Flow.laws c.args.flow.now c.requires.valid in
+    roomy_from g.F.Value.Room.Room.fits g.F.Value.Lattice.size net c.args.values.now c.args.room.now c.requires.first.len
+    (λ n h. rw (c.requires.first.each n h) (laws.first_size n h)) c.requires.has_room
+
+pub returns-clause-has_room : goal.returns-clause-has_room
+returns-clause-has_room g c =
+    room_from g.F.Value.Room.Room.fits g.F.Value.Lattice.size (g.F.Flow.net c.args.flow.now) c.drain.new.values c.drain.new.room
+    c.drain.ensures.len c.drain.ensures.sizes c.drain.ensures.room

@@ -41,6 +41,7 @@ loop-number-preserved g c =
       nodes = c.enlist.ensures.nodes ∙ inv.nodes;
       working = push;
       fit = c.push_along-changed.ensures.fit;
+      room = c.push_along-changed.ensures.room;
       telling = c.push_along-changed.ensures.telling;
       pushes = omega arith;
       visits = omega arith;

@@ -14,6 +14,7 @@ invariant-loop-number g l =
       nodes : l.waiting.nodes ≡ net.nodes;
       working : Working g.F.Value.Lattice.below net l.values (is_listed l.waiting.lists) (λ e. net.source e ≡ l.node → e < l.number);
       fit : NewsFit g.F.Value.News.News.fits net.nodes net.size l.news;
+      room : g.F.Value.Room.Room.fits l.room net.size;
       telling : Telling net (g.F.Flow.caught l.flow) l.values l.news;
       pushes : l.steps + (l.stop - l.number) + pushes_left net rank l.values (is_listed l.waiting.lists) ≤ l.initial.steps + (l.stop - l.initial.number) + pushes_left net rank l.initial.values (is_listed l.initial.waiting.lists);
       visits : nodes_left net rank l.values (is_listed l.waiting.lists) ≤ nodes_left net rank l.initial.values (is_listed l.initial.waiting.lists);

@@ -22,17 +22,13 @@ join_news-requires-clause-long g c =
 pub join_news-requires-clause-fits : goal.join_news-requires-clause-fits
 join_news-requires-clause-fits g c =
     let f = c.from.inside in
-    let i = c.into.inside in
-    kept_long f.reached f.known c.args.from.now c.from.view_is ∙ c.requires.from_size ∙ sym c.requires.into_size ∙ sym (kept_long i.reached i.known c.args.into.now c.into.view_is) ∙ sym c.into.invariant
+    kept_long f.reached f.known c.args.from.now c.from.view_is ∙ c.requires.from_size ∙ sym c.requires.room
 
 pub join_news-requires-clause-caught : goal.join_news-requires-clause-caught
 join_news-requires-clause-caught g c =
     let f = c.from.inside in
     let i = c.into.inside in
     caught_known ((net_of g.K.Knowledge.rules c.args.self.now).transfer c.args.number) c.args.news.now f.reached i.reached f.known i.known c.args.from.now c.args.into.now (c.is_whole.ensures.from c.if-is_whole.false) (c.is_whole.ensures.into c.if-is_whole.false) c.from.view_is c.into.view_is c.requires.caught
-
-pub invariant_of-into : goal.invariant_of-into
-invariant_of-into g c = c.join_news.ensures.room ∙ c.into.invariant ∙ sym c.join_news.ensures.keeps.long
 
 pub returns-else-is_whole-clause-joined : goal.returns-else-is_whole-clause-joined
 returns-else-is_whole-clause-joined g c =
@@ -52,3 +48,6 @@ returns-else-is_whole-clause-keeps g c = record {
       let i = c.into.inside in
       keeps_where g.K.Knowledge.rules ((net_of g.K.Knowledge.rules c.args.self.now).transfer e) c.args.into_news.now c.join_news.new.into_news i.reached i.known c.join_news.new.into c.args.into.now w (c.is_whole.ensures.into c.if-is_whole.false) c.into.view_is c.join_news.ensures.keeps caught;
 }
+
+pub returns-else-is_whole-clause-room : goal.returns-else-is_whole-clause-room
+returns-else-is_whole-clause-room g c = c.join_news.ensures.room ∙ c.requires.room

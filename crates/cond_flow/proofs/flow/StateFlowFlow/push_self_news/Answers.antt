@@ -1,7 +1,7 @@
 use Rattle.std.proofs.Common.{◌≡◌, ◌↔◌, ◌∙◌, false, sym, ap, subst}
 use Rattle.cond_flow.specs.Flows.{net_of}
 use Rattle.cond_flow.specs.States.{state_where}
-use Rattle.cond_flow.proofs.JoinCases.{known_is, known_same}
+use Rattle.cond_flow.proofs.JoinCases.{kept_long, known_is, known_same}
 use Rattle.cond_flow.proofs.PushLaws.{caught_known, joins_known}
 use Rattle.cond_flow.proofs.RaisingLaws.{keeps_renewed, keeps_where}
 use Rattle.cond_flow.proofs.flow.StateFlowFlow.push_self_news.Goals as goal
@@ -17,9 +17,6 @@ pub join_round-requires-clause-caught : goal.join_round-requires-clause-caught
 join_round-requires-clause-caught g c =
     let i = c.value.inside in
     caught_known ((net_of g.K.Knowledge.rules c.args.self.now).transfer c.args.number) c.args.news.now i.reached i.reached i.known i.known c.args.value.now c.args.value.now (c.is_whole.ensures.into c.if-is_whole.false) (c.is_whole.ensures.into c.if-is_whole.false) c.value.view_is c.value.view_is c.requires.caught
-
-pub invariant_of-value : goal.invariant_of-value
-invariant_of-value g c = c.join_round.ensures.room ∙ c.value.invariant ∙ sym c.join_round.ensures.keeps.long
 
 pub returns-else-is_whole-clause-joined : goal.returns-else-is_whole-clause-joined
 returns-else-is_whole-clause-joined g c =
@@ -38,3 +35,11 @@ returns-else-is_whole-clause-keeps g c = record {
       let i = c.value.inside in
       keeps_where g.K.Knowledge.rules ((net_of g.K.Knowledge.rules c.args.self.now).transfer e) c.args.news.now c.join_round.new.news i.reached i.known c.join_round.new.known c.args.value.now w (c.is_whole.ensures.into c.if-is_whole.false) c.value.view_is c.join_round.ensures.keeps caught;
 }
+
+pub join_round-requires-clause-fits : goal.join_round-requires-clause-fits
+join_round-requires-clause-fits g c =
+    let i = c.value.inside in
+    kept_long i.reached i.known c.args.value.now c.value.view_is ∙ c.requires.size ∙ sym c.requires.room
+
+pub returns-else-is_whole-clause-room : goal.returns-else-is_whole-clause-room
+returns-else-is_whole-clause-room g c = c.join_round.ensures.room ∙ c.requires.room

@@ -1,16 +1,8 @@
-use Rattle.std.proofs.Common.{length, sym, ap, ◌∙◌, subst}
+use Rattle.std.proofs.Common.{sym, ◌∙◌, subst}
 use Rattle.fix_solve.specs.Order.{IsLeastUpper}
 use Rattle.cond_flow.specs.States.{BelowState, Knows, state_where}
 use Rattle.cond_flow.proofs.JoinCases.{kept_long, meets_first, meets_known}
-use Rattle.cond_flow.proofs.Joins.{length_joined}
 use Rattle.cond_flow.proofs.states.BlockState.meet.Goals as goal
-
-pub invariant_of-self : goal.invariant_of-self
-invariant_of-self g c =
-    let r = g.K.Knowledge.rules in
-    let i = c.self.inside in
-    let size = kept_long i.reached i.known c.args.self.now c.self.view_is ∙ sym c.requires in
-    c.self.invariant ∙ sym (ap length c.join_from.ensures.joined ∙ length_joined r.joined r.top i.known c.args.known.now size)
 
 pub returns-then-self-clause-joined : goal.returns-then-self-clause-joined
 returns-then-self-clause-joined g c =

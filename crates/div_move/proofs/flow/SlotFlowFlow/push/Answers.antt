@@ -9,35 +9,36 @@ pub bring-requires-clause-there : goal.bring-requires-clause-there
 bring-requires-clause-there g c = (pushed_ends c.args.self.now c.requires.valid c.args.number c.entering_edge-edge.result c.requires.in_range c.entering_edge-edge.ensures).1
 
 pub bring-requires-clause-first : goal.bring-requires-clause-first
-bring-requires-clause-first g c = first_long c.from.inside.known.first c.from.inside.known.second c.args.from.now c.args.self.now.bits c.from.invariant.second_long c.from.view_is c.requires.from_size
+bring-requires-clause-first g c = first_long c.from.inside.known.first c.from.inside.known.second c.args.from.now c.args.self.now.bits c.from.invariant c.from.view_is c.requires.from_size
 
 pub bring-requires-clause-second : goal.bring-requires-clause-second
-bring-requires-clause-second g c = c.from.invariant.second_long ∙ first_long c.from.inside.known.first c.from.inside.known.second c.args.from.now c.args.self.now.bits c.from.invariant.second_long c.from.view_is c.requires.from_size
+bring-requires-clause-second g c = c.from.invariant ∙ first_long c.from.inside.known.first c.from.inside.known.second c.args.from.now c.args.self.now.bits c.from.invariant c.from.view_is c.requires.from_size
 
 pub bring-requires-clause-room : goal.bring-requires-clause-room
-bring-requires-clause-room g c = c.into.invariant.room_long ∙ first_long c.into.inside.known.first c.into.inside.known.second c.args.into.now c.args.self.now.bits c.into.invariant.second_long c.into.view_is c.requires.into_size
+bring-requires-clause-room g c = c.requires.room.first_long
 
 pub bring-requires-clause-other_room : goal.bring-requires-clause-other_room
-bring-requires-clause-other_room g c = c.into.invariant.other_long ∙ first_long c.into.inside.known.first c.into.inside.known.second c.args.into.now c.args.self.now.bits c.into.invariant.second_long c.into.view_is c.requires.into_size
+bring-requires-clause-other_room g c = c.requires.room.second_long
 
 pub join-requires-clause-there : goal.join-requires-clause-there
 join-requires-clause-there g c = (pushed_ends c.args.self.now c.requires.valid c.args.number c.entering_edge-edge.result c.requires.in_range c.entering_edge-edge.ensures).0
 
 pub join-requires-clause-first : goal.join-requires-clause-first
-join-requires-clause-first g c = first_long c.into.inside.known.first c.into.inside.known.second c.args.into.now c.args.self.now.bits c.into.invariant.second_long c.into.view_is c.requires.into_size ∙ sym (ap length c.view.ensures ∙ c.bring.ensures.long)
+join-requires-clause-first g c = first_long c.into.inside.known.first c.into.inside.known.second c.args.into.now c.args.self.now.bits c.into.invariant c.into.view_is c.requires.into_size ∙ sym (ap length c.view.ensures ∙ c.bring.ensures.long)
 
 pub join-requires-clause-second : goal.join-requires-clause-second
-join-requires-clause-second g c = c.into.invariant.second_long ∙ first_long c.into.inside.known.first c.into.inside.known.second c.args.into.now c.args.self.now.bits c.into.invariant.second_long c.into.view_is c.requires.into_size ∙ sym (ap length c.view.ensures ∙ c.bring.ensures.long)
+join-requires-clause-second g c = c.into.invariant ∙ first_long c.into.inside.known.first c.into.inside.known.second c.args.into.now c.args.self.now.bits c.into.invariant c.into.view_is c.requires.into_size ∙ sym (ap length c.view.ensures ∙ c.bring.ensures.long)
 
 pub invariant_of-into : goal.invariant_of-into
 invariant_of-into g c =
-    let long = first_long c.into.inside.known.first c.into.inside.known.second c.args.into.now c.args.self.now.bits c.into.invariant.second_long c.into.view_is c.requires.into_size in
-    let first = c.join.ensures.first_long ∙ long in
-    record {
-      second_long = c.join.ensures.second_long ∙ c.into.invariant.second_long ∙ long ∙ sym first;
-      room_long = c.bring.ensures.long ∙ sym first;
-      other_long = c.bring.ensures.other_long ∙ sym first;
-    }
+    let long = first_long c.into.inside.known.first c.into.inside.known.second c.args.into.now c.args.self.now.bits c.into.invariant c.into.view_is c.requires.into_size in
+    c.join.ensures.second_long ∙ c.into.invariant ∙ long ∙ sym (c.join.ensures.first_long ∙ long)
+
+pub returns-clause-room : goal.returns-clause-room
+returns-clause-room g c = record {
+  first_long = c.bring.ensures.long;
+  second_long = c.bring.ensures.other_long;
+}
 
 pub returns-clause-joined : goal.returns-clause-joined
 returns-clause-joined g c =

@@ -1,5 +1,5 @@
 use Rattle.std.proofs.Common.{◌≡◌, length, refl, sym, ◌∙◌}
-use Rattle.fix_solve.proofs.Telling.{news_from}
+use Rattle.fix_solve.proofs.Telling.{news_from, room_from}
 use Rattle.fix_solve.proofs.work.Work.new.Goals as goal
 
 pub invariant_of-result : goal.invariant_of-result
@@ -14,4 +14,6 @@ invariant_of-result g c =
       },
       news_from g.V.News.News.fits g.V.Lattice.size net c.in_ok-values.values.items c.in_ok-news.news.items
           len (λ n h. rw (c.in_ok-values.ensures.each n h) (laws.first_size n h)) c.in_ok-news.ensures,
+      room_from g.V.Room.Room.fits g.V.Lattice.size net c.in_ok-values.values.items c.in_ok-room.room
+          len (λ n h. rw (c.in_ok-values.ensures.each n h) (laws.first_size n h)) (λ n h. c.in_ok-room.ensures),
     )
