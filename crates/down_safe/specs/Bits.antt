@@ -4,8 +4,9 @@ use Rattle.std.specs.Prelude.{◌≡◌, ◌<◌, ℕ, Bool, true, not, ◌||◌
 use Rattle.flow_graph.specs.declared.nodes.Node.{Node}
 use Rattle.flow_graph.specs.Graphs.{GraphShape}
 use Rattle.flow_graph.specs.Paths.{HasEdge, Trace}
-use Rattle.path_laws.specs.Paths.{Tell, has_bit, width}
+use Rattle.path_laws.specs.Paths.{HaveShape, Tell, has_bit, width}
 use Rattle.motion_rewrite.specs.Placements.{ReachesAlong}
+use Rattle.down_safe.specs.declared.safety.Sites.{Sites}
 
 -- ---- one bit
 
@@ -26,6 +27,10 @@ IsEarliestBit nodes killed available anticipatable n = (anticipatable n ≡ true
     × (is_frontier (killed m) (available m) (anticipatable m) ≡ true))
 
 -- ---- all bits
+
+-- a row for each node of the graph, with as many bits as the rows of kills have
+abbrev pub HaveShapeOf : Sites → List (List Bool) → Type 0
+HaveShapeOf sites rows = HaveShape sites.graph.now (width sites.kills.now) rows
 
 -- the rows say where each bit is available
 abbrev pub AreAvailableRows : GraphShape → List (List Bool) → List (List Bool) → List (List Bool)

@@ -2,8 +2,8 @@
 ghost use Rattle.std.specs.Prelude.{◌≡◌, length, IfOk};
 ghost use Rattle.flow_graph.specs.Blocks.{AreBlocksOf};
 ghost use Rattle.flow_graph.specs.Edges.{edges_of};
-ghost use Rattle.path_laws.specs.Paths.{AreRows, HaveShape, width};
-ghost use Rattle.down_safe.specs.Bits.{AreAvailableRows, AreFrontierRows, AreEarliestRows};
+ghost use Rattle.path_laws.specs.Paths.{AreRows, width};
+ghost use Rattle.down_safe.specs.Bits.{AreAvailableRows, AreEarliestRows, AreFrontierRows, HaveShapeOf};
 
 use crate::Sites;
 use bit_rows::Rows;
@@ -16,9 +16,9 @@ use std::alloc::Global;
 pub(crate) fn available_rows(alloc: Global, sites: &Sites<'_>) -> Result<Rows, Memory>
     requires edges { sites.now.edges.now ≡ edges_of sites.now.graph.now.nodes }
     requires blocks { AreBlocksOf sites.now.graph.now.nodes sites.now.blocks.now }
-    requires uses { HaveShape sites.now.graph.now (width sites.now.kills.now) sites.now.uses.now }
-    requires kills { HaveShape sites.now.graph.now (width sites.now.kills.now) sites.now.kills.now }
-    ensures shape { IfOk result (HaveShape sites.now.graph.now (width sites.now.kills.now)) }
+    requires uses { HaveShapeOf sites.now sites.now.uses.now }
+    requires kills { HaveShapeOf sites.now sites.now.kills.now }
+    ensures shape { IfOk result (HaveShapeOf sites.now) }
     ensures available { IfOk result
         (AreAvailableRows sites.now.graph.now sites.now.uses.now sites.now.kills.now) }
 {
@@ -37,10 +37,10 @@ pub(crate) fn earliest_rows(
     anticipatable: &Rows,
 ) -> Result<Rows, Memory>
     requires edges { sites.now.edges.now ≡ edges_of sites.now.graph.now.nodes }
-    requires kills { HaveShape sites.now.graph.now (width sites.now.kills.now) sites.now.kills.now }
-    requires available { HaveShape sites.now.graph.now (width sites.now.kills.now) available }
-    requires anticipatable { HaveShape sites.now.graph.now (width sites.now.kills.now) anticipatable.now }
-    ensures shape { IfOk result (HaveShape sites.now.graph.now (width sites.now.kills.now)) }
+    requires kills { HaveShapeOf sites.now sites.now.kills.now }
+    requires available { HaveShapeOf sites.now available }
+    requires anticipatable { HaveShapeOf sites.now anticipatable.now }
+    ensures shape { IfOk result (HaveShapeOf sites.now) }
     ensures earliest { IfOk result
         (AreEarliestRows sites.now.graph.now sites.now.kills.now available anticipatable.now) }
 {

@@ -2,5 +2,4 @@ pub mod Making
 pub mod Meaning
 pub mod Numbers
 pub mod Shapes
-pub mod Whole
 pub mod Undone

@@ -24,6 +24,7 @@ use Rattle.flow_graph.specs.Graphs.{GraphShape}
 use Rattle.flow_graph.specs.MachineLaws.{graph_hands}
 use Rattle.flow_graph.specs.Machines.{graph_code, graph_machine, machine_of, node_transition}
 use Rattle.flow_graph.specs.RunFrames.{IsRunFrame}
+use Rattle.flow_graph.specs.RunSteps.{cheaper_in_runs, same_in_runs}
 use Rattle.held_assign.specs.HeldValues.{HeldValuesAgree}
 use Rattle.bounds.specs.declared.facts.Fact.{Fact}
 use Rattle.bounds.specs.BoundRules.{bound_rules}
@@ -36,7 +37,6 @@ use Rattle.extend_flow.specs.declared.shifts.Extension.{Extension}
 use Rattle.extend_flow.specs.declared.shifts.LeftShift.{LeftShift}
 use Rattle.extend_flow.specs.Extended.{AreExtended, IsHeldShift, extended_by, extended_node, extended_rhs, extended_where}
 use Rattle.extend_flow.specs.Extensions.{IsDistance, extension_of, keeps_all}
-use Rattle.extend_flow.specs.RunSteps.{cheaper_in_runs, same_in_runs}
 use Rattle.extend_flow.proofs.Undone.{Extends, ShiftsBack, extends, same_source}
 use Rattle.extend_flow.proofs.Numbers.{signed_kept, unsigned_kept}
 

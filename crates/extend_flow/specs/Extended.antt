@@ -5,8 +5,7 @@ use Rattle.mir_base.specs.declared.instructions.Rhs.{Rhs}
 use Rattle.mir_base.specs.declared.instructions.Rhs.TheVariants.{Plain}
 use Rattle.flow_graph.specs.declared.nodes.Node.{Node}
 use Rattle.flow_graph.specs.declared.nodes.Node.TheVariants.{Start, Skip, Assign, Print, Guard, Call, Test, Return}
-use Rattle.flow_graph.specs.Edges.{IsSplit}
-use Rattle.flow_graph.specs.Graphs.{GraphShape, succs_at}
+use Rattle.flow_graph.specs.Graphs.{GraphShape}
 use Rattle.held_assign.specs.Holding.{IsHeldRhs}
 use Rattle.bounds.specs.declared.facts.Fact.{Fact}
 use Rattle.bounds.specs.BoundRules.{bound_rules}
@@ -78,11 +77,3 @@ pub record IsExtended (graph extended : GraphShape) : Type 0 where
 -- no other graph is the extended one
 abbrev pub IsOnlyExtended : GraphShape → GraphShape → Type 0
 IsOnlyExtended graph extended = (other : GraphShape) → IsExtended graph other → other ≡ extended
-
--- each node has the successors that it had
-abbrev pub KeepsSuccs : GraphShape → GraphShape → Type 0
-KeepsSuccs graph extended = (n : ℕ) → succs_at extended.nodes n ≡ succs_at graph.nodes n
-
--- a split graph stays split
-abbrev pub KeepsSplit : GraphShape → GraphShape → Type 0
-KeepsSplit graph extended = IsSplit graph.nodes → IsSplit extended.nodes

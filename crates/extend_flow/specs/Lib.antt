@@ -2,4 +2,3 @@ pub mod Extensions
 pub mod Extended
 pub mod ExtendedLaws
 pub mod ByRows
-pub mod RunSteps

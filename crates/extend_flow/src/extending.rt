@@ -1,7 +1,7 @@
 // The graph in which extensions that change nothing are copies.
 ghost use Rattle.std.specs.Prelude.{IfOk};
-ghost use Rattle.flow_graph.specs.Passes.{GraphDividesUnchanged, GraphKeeps};
-ghost use Rattle.extend_flow.specs.Extended.{AreExtended, IsExtended, IsOnlyExtended, KeepsSplit, KeepsSuccs};
+ghost use Rattle.flow_graph.specs.Passes.{GraphDividesUnchanged, GraphKeeps, KeepsSplit, KeepsSuccs};
+ghost use Rattle.extend_flow.specs.Extended.{AreExtended, IsExtended, IsOnlyExtended};
 
 use crate::rewriting::nodes_by_held;
 use crate::shifts::PickShifts;

@@ -1,5 +1,5 @@
 -- The units that the passes made fit together as a program.
-use Rattle.std.proofs.Common.{◌≡◌, ℕ, zero, suc, ◌<◌, ◌≤◌, List, [], ◌∷◌, length, slice_get, Option, Some, None, option_map, take, refl, sym, ap, ◌∙◌, subst, arith}
+use Rattle.std.proofs.Common.{◌≡◌, ℕ, ◌<◌, ◌≤◌, List, length, slice_get, Option, Some, None, option_map, take, refl, sym, ap, ◌∙◌, subst, arith}
 use Rattle.std.specs.List.{AllZip}
 use Rattle.std.proofs.lemmas.Option.{slice_get_within}
 use Rattle.std.proofs.lemmas.Slice.Zip.{AllZip-long}
@@ -9,44 +9,14 @@ use Rattle.mir_base.specs.Shapes.{UnitShape, receives_in, body_at, body_or_empty
 use Rattle.mir_base.specs.UnitRuns.{UnitSame, UnitCheaper, body_machine, unit_machine, machine_at}
 use Rattle.mir_sim.specs.Calls.{HasCall, CallsNoMore}
 use Rattle.mir_sim.specs.Pairs.{AllUnitsSame, AllUnitsCheaper}
-use Rattle.flow_graph.specs.Calls.{BodyCalls, inst_call}
+use Rattle.flow_graph.specs.Calls.{inst_call}
+use Rattle.flow_graph.specs.FitLaws.{called_fits, names_at, names_long}
 use Rattle.flow_graph.specs.ListLaws.{some_at}
 use Rattle.flow_graph.specs.Lowered.{target_of}
 use Rattle.mir_opt.specs.Made.{IsKept}
 use Rattle.mir_opt.proofs.Zips.{zip_at}
 
--- ---- the calls of a body
-
--- a call of a body that fits
-called_fits : (units : List UnitShape) (body : List Inst) (called count : ℕ) → BodyFits units body → BodyCalls body called count → (called < length units) × (count ≡ receives_in (body_at units called))
-called_fits units body called count fits c = go c.inst (fits.insts c.place c.inst c.here) c.calls
-  where
-    go : (inst : Inst) → InstFits units body c.place inst → inst_call inst ≡ Some (called, count) → (called < length units) × (count ≡ receives_in (body_at units called))
-    go (Receive x) f is = cc
-    go (Assign x rhs) f is = cc
-    go (Goto to) f is = cc
-    go (If test to) f is = cc
-    go (TrapIf test number) f is = cc
-    go (Call into unit operands) f is =
-        let both : ◌≡◌ {A = ℕ × ℕ} (unit, length operands) (called, count) = cc in
-        let one : unit ≡ called = ap (λ (p : ℕ × ℕ). p.0) both in
-        let other : length operands ≡ count = ap (λ (p : ℕ × ℕ). p.1) both in
-        (subst (λ u. u < length units) one f.0, sym other ∙ f.1 ∙ ap (λ u. receives_in (body_at units u)) one)
-    go (Print a) f is = cc
-    go (Return a) f is = cc
-
 -- ---- the units that were made
-
--- the names of the units, by their numbers
-names_at : (units : List UnitShape) (n : ℕ) → slice_get (names_of units) n ≡ option_map (λ (u : UnitShape). u.name) (slice_get units n)
-names_at [] n = refl
-names_at (unit ∷ units) zero = refl
-names_at (unit ∷ units) (suc n) = names_at units n
-
--- each unit has one name
-names_long : (units : List UnitShape) → length (names_of units) ≡ length units
-names_long [] = refl
-names_long (unit ∷ units) = ap suc (names_long units)
 
 -- units of a program, each kept
 module _ (globals : List (List ℕ)) (sources targets : List UnitShape) (program : IsProgram globals sources) (all : AllZip IsKept sources targets) where

@@ -1,7 +1,6 @@
 -- The bits of the rows of uses and kills, at one node.
-use Rattle.std.proofs.Common.{◌≡◌, ◌↔◌, ℕ, zero, suc, Bool, true, false, nat_eq, nat_lt, ◌||◌, [], ◌∷◌, inl, inr, ap, ◌∙◌, arith, List, slice_get, Option, None, Some, refl, sym}
+use Rattle.std.proofs.Common.{◌≡◌, ◌↔◌, ℕ, Bool, true, nat_eq, nat_lt, ◌||◌, [], ◌∷◌, ap, ◌∙◌, List, slice_get, Option, None, Some, refl, sym}
 use Rattle.std.specs.List.{list_any}
-use Rattle.std.proofs.lemmas.Bool.{cases_lt, eq-eqb, le-ltb, lt-ltb, ne_eqb}
 use Rattle.mir_base.specs.declared.instructions.Expr.{Expr}
 use Rattle.mir_base.specs.ExpressionVars.{expr_vars, written_expr}
 use Rattle.mir_base.specs.SameExpressions.{is_expr, is_written}
@@ -11,7 +10,8 @@ use Rattle.flow_graph.specs.Graphs.{GraphShape, node_rhs, rhs_at}
 use Rattle.flow_graph.specs.Numbering.{is_in}
 use Rattle.flow_graph.specs.NumberingLaws.{in_any}
 use Rattle.graph_edit.specs.VarLaws.{assigns_none}
-use Rattle.key_rows.specs.KeyRows.{HasKey, any_assigned, any_below, key_in}
+use Rattle.key_rows.specs.BelowLaws.{any_in, or_swap}
+use Rattle.key_rows.specs.KeyRows.{HasKey, any_assigned, key_in}
 use Rattle.motion_rewrite.specs.Expressions.{node_kills, node_uses}
 
 -- the expression that the right side of a node is
@@ -26,46 +26,10 @@ uses_written nodes n e = by (slice_get nodes n)
     by None = (λ on. cc, λ has. cc)
     by (Some node) = is_written e (node_rhs node)
 
--- two tests of two things each
-or_swap : (a b c d : Bool) → ((a || b) || (c || d)) ≡ ((a || c) || (b || d))
-or_swap true b c d = refl
-or_swap false true true d = refl
-or_swap false true false d = refl
-or_swap false false true d = refl
-or_swap false false false d = refl
-
 -- where one of two tests holds of one of a list, one of them does so
 any_or : (f g : ℕ → Bool) (xs : List ℕ) → list_any (λ x. f x || g x) xs ≡ (list_any f xs || list_any g xs)
 any_or f g [] = refl
 any_or f g (x ∷ xs) = ap (λ b. (f x || g x) || b) (any_or f g xs) ∙ or_swap (f x) (g x) (list_any f xs) (list_any g xs)
-
--- the same of the numbers below one
-below_or : (f g : ℕ → Bool) (n : ℕ) → any_below (λ x. f x || g x) n ≡ (any_below f n || any_below g n)
-below_or f g zero = refl
-below_or f g (suc n) = ap (λ b. b || (f n || g n)) (below_or f g n) ∙ or_swap (any_below f n) (any_below g n) (f n) (g n)
-
--- no test that never holds does so
-below_none : (n : ℕ) → any_below (λ x. false) n ≡ false
-below_none zero = refl
-below_none (suc n) = ap (λ b. b || false) (below_none n)
-
--- a number stands below another where it is one of those below
-below_is : (y n : ℕ) → any_below (nat_eq y) n ≡ nat_lt y n
-below_is y zero = sym (le-ltb y 0 (omega arith))
-below_is y (suc n) = ap (λ b. b || nat_eq y n) (below_is y n) ∙ sym (elim (cases_lt y n) [
-  | inl lt ↦ lt-ltb y (suc n) (omega (arith, lt)) ∙ sym (ap (λ b. b || nat_eq y n) (lt-ltb y n lt))
-  | inr ge ↦ elim (cases_lt n y) [
-    | inl gt ↦ le-ltb y (suc n) (omega (arith, gt)) ∙ sym (ap (λ b. b || nat_eq y n) (le-ltb y n (omega (arith, ge))) ∙ ne_eqb y n (λ same. omega (arith, gt, same)))
-    | inr le ↦
-        let same : y ≡ n = omega (arith, ge, le) in
-        lt-ltb y (suc n) (omega (arith, same)) ∙ sym (ap (λ b. b || nat_eq y n) (le-ltb y n (omega (arith, ge))) ∙ eq-eqb y n same)
-  ]
-])
-
--- one of the globals is one of these variables
-any_in : (n : ℕ) (xs : List ℕ) → any_below (λ x. is_in x xs) n ≡ list_any (λ x. nat_lt x n) xs
-any_in n [] = below_none n
-any_in n (y ∷ xs) = below_or (nat_eq y) (λ x. is_in x xs) n ∙ ap (λ b. b || any_below (λ x. is_in x xs) n) (below_is y n) ∙ ap (λ b. nat_lt y n || b) (any_in n xs)
 
 -- a node kills an expression where it is Start or assigns one of its variables
 pub kills_assigned : (graph : GraphShape) (e : Expr) (node : Option Node) → any_assigned true graph.shared (λ x. is_in x (expr_vars e)) node ≡ node_kills graph e node

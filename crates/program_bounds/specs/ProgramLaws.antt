@@ -1,6 +1,6 @@
 -- Laws: the graphs of the units of a program fit together; what is made of the units by the surest facts keeps the
 -- program; and a program has one such program. For proofs only.
-use Rattle.std.proofs.Common.{◌≡◌, ℕ, zero, suc, ◌<◌, inl, inr, List, [], ◌∷◌, ◌++◌, length, replicate, slice_get, ℤ, pos, Option, Some, refl, sym, ap, ◌∙◌, subst, arith}
+use Rattle.std.proofs.Common.{◌≡◌, ℕ, zero, suc, ◌<◌, List, [], ◌∷◌, ◌++◌, length, replicate, slice_get, ℤ, pos, Option, Some, refl, sym, ap, ◌∙◌, subst, arith}
 use Rattle.std.proofs.lemmas.List.{ext_get_or}
 use Rattle.std.proofs.lemmas.Option.{same_Some, slice_get_within}
 use Rattle.mir_base.specs.FrameLaws.{argument_fits}
@@ -11,13 +11,15 @@ use Rattle.mir_base.specs.UnitRuns.{IsEntry}
 use Rattle.flow_graph.specs.declared.nodes.Node.TheVariants.{Call, Return}
 use Rattle.flow_graph.specs.Graphs.{GraphShape}
 use Rattle.flow_graph.specs.KeepsLaws.{same_globals}
-use Rattle.flow_graph.specs.ListLaws.{get_push, some_at}
+use Rattle.flow_graph.specs.ListLaws.{some_at}
 use Rattle.flow_graph.specs.OneLaws.{lowered_is_one}
 use Rattle.jump_clean.specs.Cleaned.{IsClean}
 use Rattle.jump_clean.specs.CleanLaws.{clean_is_one}
+use Rattle.program_pass.specs.FrontLaws.{graphs_are}
+use Rattle.program_pass.specs.Fronts.{AreFronts}
 use Rattle.program_pass.specs.GraphPrograms.{IsGraphProgram, graph_machines, graph_numbered, graph_or_empty, shared_in}
 use Rattle.program_pass.specs.PassOneLaws.{places_same, program_only}
-use Rattle.program_pass.specs.PassPrograms.{CleanedLaid, KeepsRuns, LoweredClean}
+use Rattle.program_pass.specs.PassPrograms.{CleanedLaid, KeepsRuns}
 use Rattle.program_pass.specs.PassProgramLaws.{at, between_at, graph_program, graphs, graphs_count, middles, passes_keep}
 use Rattle.program_pass.specs.RefitLaws.{called_fits}
 use Rattle.bounds.specs.declared.facts.Fact.{Fact}
@@ -35,32 +37,12 @@ use Rattle.cond_flow.specs.States.{BelowState, NodeState, Unreached, Knows}
 use Rattle.cond_flow.specs.WithinLaws.{order_within}
 use Rattle.program_bounds.specs.BoundStacks.{Sides, above_known, bounded_keep}
 use Rattle.program_bounds.specs.Facts.{AreLeastFacts, AreServed, ProgramFacts, around, first_facts, row_at, rules_at}
-use Rattle.program_bounds.specs.Programs.{AreFronts, AreGraphsOf, BoundedBy, BoundedUnit, BoundedUnits, IsBoundedBetween, IsBoundedProgram}
+use Rattle.program_bounds.specs.Programs.{BoundedBy, BoundedUnit, BoundedUnits, IsBoundedBetween, IsBoundedProgram}
 use Rattle.program_bounds.specs.Sweeps.{FitTogether}
 
 -- ---- the graphs
 
--- graphs of the first units
-abbrev pub AreFrontsBelow : List UnitShape → List GraphShape → Type 0
-AreFrontsBelow units gs = (u : ℕ) (unit : UnitShape) (graph : GraphShape)
-    → slice_get units u ≡ Some unit → slice_get gs u ≡ Some graph
-    → (lowered : GraphShape) × LoweredClean unit lowered graph
-
--- one more
-pub fronts_more : (units : List UnitShape) (gs more : List GraphShape) (number : ℕ) (unit : UnitShape) (lowered graph : GraphShape) → length gs ≡ number → AreFrontsBelow units gs → slice_get units number ≡ Some unit → LoweredClean unit lowered graph → more ≡ gs ++ graph ∷ [] → AreFrontsBelow units more
-fronts_more units gs more number unit lowered graph long are at made is u v g at_v at_g = elim (get_push gs graph g u (sym (ap (λ l. slice_get l u) is) ∙ at_g)) [
-  | inl old ↦ are u v g at_v old
-  | inr last ↦
-      let number_is : u ≡ number = last.0 ∙ long in
-      let same : unit ≡ v = same_Some unit v (sym at ∙ ap (slice_get units) (sym number_is) ∙ at_v) in
-      (lowered, subst (λ h. LoweredClean v lowered h) last.1 (subst (λ s. LoweredClean s lowered graph) same made))
-]
-
--- the exact graphs
-pub graphs_of : (units : List UnitShape) (gs : List GraphShape) → AreFronts units gs → AreGraphsOf units gs
-graphs_of units gs are = record { long = are.long; are = λ u unit graph at at'. let m = are.are u unit graph at at' in (m.0, (m.1.is_lowered, m.1.is_cleaned)) }
-
--- they fit together
+-- those of the units of a program fit together
 pub fit_together : (globals : List (List ℕ)) (units : List UnitShape) (gs : List GraphShape) → IsProgram globals units → AreFronts units gs → FitTogether gs
 fit_together globals units gs program are = record {
   some = omega (arith, program.some_unit, are.long);

@@ -1,23 +1,12 @@
 -- The program whose units know the facts over all units. Cited by contracts.
-use Rattle.std.specs.Prelude.{◌≡◌, ℕ, List, length, slice_get, Some}
+use Rattle.std.specs.Prelude.{◌≡◌, ℕ, List}
 use Rattle.mir_base.specs.Shapes.{ProgramShape, UnitShape}
 use Rattle.flow_graph.specs.Graphs.{GraphShape}
-use Rattle.flow_graph.specs.Lowered.{IsLowered}
-use Rattle.jump_clean.specs.Cleaned.{IsClean}
-use Rattle.program_pass.specs.PassPrograms.{AllPassed, IsPassedProgram, LoweredClean, PassRelation, PassedAt}
+use Rattle.program_pass.specs.Fronts.{AreGraphsOf}
+use Rattle.program_pass.specs.PassPrograms.{AllPassed, IsPassedProgram, PassRelation, PassedAt}
 use Rattle.bounds.specs.Facts.{BelowFact}
 use Rattle.cond_flow.specs.Rewritten.{IsRewritten, become_graph}
 use Rattle.program_bounds.specs.Facts.{AreLeastFacts, ProgramFacts, rules_at}
-
--- the graph of a unit with clean jumps
-abbrev pub IsGraphOf : UnitShape → GraphShape → Type 0
-IsGraphOf unit graph = (lowered : GraphShape) × (IsLowered unit lowered × IsClean lowered graph)
-
--- the graphs of the units
-pub record AreGraphsOf (units : List UnitShape) (graphs : List GraphShape) : Type 0 where
-  pub long : length graphs ≡ length units
-  pub are : (u : ℕ) (unit : UnitShape) (graph : GraphShape) → slice_get units u ≡ Some unit
-      → slice_get graphs u ≡ Some graph → IsGraphOf unit graph
 
 -- each graph is rewritten by what is known around its unit
 abbrev pub BoundedBy : ProgramFacts → PassRelation
@@ -32,12 +21,6 @@ pub record IsBoundedProgram (source target : ProgramShape) : Type 0 where
   pub passed : IsPassedProgram (BoundedBy known) source target
 
 -- ---- what the functions of this crate make
-
--- the graphs of the units, with what they keep
-pub record AreFronts (units : List UnitShape) (graphs : List GraphShape) : Type 0 where
-  pub long : length graphs ≡ length units
-  pub are : (u : ℕ) (unit : UnitShape) (graph : GraphShape) → slice_get units u ≡ Some unit
-      → slice_get graphs u ≡ Some graph → (lowered : GraphShape) × LoweredClean unit lowered graph
 
 -- the graph in between has what the nodes become by the least states, reached or not
 pub record IsBoundedBetween (known : ProgramFacts) (u : ℕ)

@@ -2,10 +2,9 @@
 ghost use Rattle.std.specs.Prelude.{◌≡◌, ◌<◌, length, IfOk, OnOk};
 ghost use Rattle.bounds.specs.BoundRules.{bound_rules};
 ghost use Rattle.cond_flow.specs.Outsides.{rules_in};
-ghost use Rattle.unit_callers.specs.Calling.{AreUnitCallers};
 ghost use Rattle.program_bounds.specs.Facts.{AreLeastFacts, ProgramFacts, rules_at};
-ghost use Rattle.program_bounds.specs.Sweeps.{FitTogether, IsProgress, Sweeps};
-ghost use Rattle.program_bounds.specs.Tables.{AreFresh, facts_of};
+ghost use Rattle.program_bounds.specs.Sweeps.{FitTogether};
+ghost use Rattle.program_bounds.specs.Tables.{AreFresh, CanServe, SweepsUnits, facts_of};
 
 use crate::entries::Entry;
 use crate::serving::serve_stale;
@@ -61,10 +60,7 @@ fn served(
     callers: &Vec<Callers>,
     first: Tables,
 ) -> Result<Tables, Memory>
-    requires fit { FitTogether graphs.now.items }
-    requires callers { AreUnitCallers graphs.now.items callers.now.items }
-    requires progress { IsProgress graphs.now.items (facts_of first) }
-    requires fresh { AreFresh graphs.now.items first }
+    requires { CanServe graphs.now.items callers.now.items first }
     ensures least { IfOk result (λ tables. AreLeastFacts graphs.now.items (facts_of tables)) }
     ensures fresh { IfOk result (AreFresh graphs.now.items) }
 {
@@ -84,12 +80,8 @@ fn sweep(
     callers: &Vec<Callers>,
     tables: &mut Tables,
 ) -> Result<bool, Memory>
-    requires fit { FitTogether graphs.now.items }
-    requires callers { AreUnitCallers graphs.now.items callers.now.items }
-    requires progress { IsProgress graphs.now.items (facts_of tables.old) }
-    requires fresh { AreFresh graphs.now.items tables.old }
-    ensures swept { IfOk result (λ raised.
-        Sweeps graphs.now.items (facts_of tables.old) (facts_of tables.new) raised) }
+    requires { CanServe graphs.now.items callers.now.items tables.old }
+    ensures swept { IfOk result (SweepsUnits graphs.now.items tables.old tables.new) }
     ensures fresh { OnOk result (AreFresh graphs.now.items tables.new) }
 {
     let down = sweep_down(alloc, graphs, callers, tables)?;
@@ -104,12 +96,8 @@ fn sweep_down(
     callers: &Vec<Callers>,
     tables: &mut Tables,
 ) -> Result<bool, Memory>
-    requires fit { FitTogether graphs.now.items }
-    requires callers { AreUnitCallers graphs.now.items callers.now.items }
-    requires progress { IsProgress graphs.now.items (facts_of tables.old) }
-    requires fresh { AreFresh graphs.now.items tables.old }
-    ensures swept { IfOk result (λ raised.
-        Sweeps graphs.now.items (facts_of tables.old) (facts_of tables.new) raised) }
+    requires { CanServe graphs.now.items callers.now.items tables.old }
+    ensures swept { IfOk result (SweepsUnits graphs.now.items tables.old tables.new) }
     ensures fresh { OnOk result (AreFresh graphs.now.items tables.new) }
 {
     let mut raised = false;
@@ -126,12 +114,8 @@ fn sweep_up(
     callers: &Vec<Callers>,
     tables: &mut Tables,
 ) -> Result<bool, Memory>
-    requires fit { FitTogether graphs.now.items }
-    requires callers { AreUnitCallers graphs.now.items callers.now.items }
-    requires progress { IsProgress graphs.now.items (facts_of tables.old) }
-    requires fresh { AreFresh graphs.now.items tables.old }
-    ensures swept { IfOk result (λ raised.
-        Sweeps graphs.now.items (facts_of tables.old) (facts_of tables.new) raised) }
+    requires { CanServe graphs.now.items callers.now.items tables.old }
+    ensures swept { IfOk result (SweepsUnits graphs.now.items tables.old tables.new) }
     ensures fresh { OnOk result (AreFresh graphs.now.items tables.new) }
 {
     let mut raised = false;

@@ -9,7 +9,6 @@
 
 mod entries;
 mod giving;
-mod graphs;
 mod known;
 mod programs;
 mod serving;

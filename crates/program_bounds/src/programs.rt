@@ -1,15 +1,15 @@
 // Programs whose units know what is known over all units.
 ghost use Rattle.std.specs.Prelude.{◌<◌, ◌≡◌, IfOk, length};
+ghost use Rattle.program_pass.specs.Fronts.{AreFronts};
 ghost use Rattle.program_pass.specs.PassPrograms.{IsOnly, KeepsRuns};
-ghost use Rattle.program_bounds.specs.Programs.{AreFronts, BoundedUnit, BoundedUnits, IsBoundedProgram};
+ghost use Rattle.program_bounds.specs.Programs.{BoundedUnit, BoundedUnits, IsBoundedProgram};
 ghost use Rattle.program_bounds.specs.Tables.{AreFresh, facts_of};
 
-use crate::graphs::graphs_of;
 use crate::known::{Tables, around, least_facts};
 use cond_flow::rewritten_within;
 use flow_graph::Graph;
 use mir_base::{Memory, Program, Unit as MirUnit};
-use program_pass::laid_out;
+use program_pass::{graphs_of, laid_out};
 use std::alloc::Global;
 
 /// The program whose units are those of this one, each lowered, cleaned, rewritten by bounds, cleaned and laid out; the

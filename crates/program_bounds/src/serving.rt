@@ -1,10 +1,8 @@
 // One unit that is served: what is known around units is raised to what it hands over and back.
 ghost use Rattle.std.specs.Prelude.{◌≡◌, ◌<◌, true, length, IfOk, OnOk};
 ghost use Rattle.cond_flow.specs.States.{is_reached};
-ghost use Rattle.unit_callers.specs.Calling.{AreUnitCallers};
 ghost use Rattle.program_bounds.specs.Facts.{row_at};
-ghost use Rattle.program_bounds.specs.Sweeps.{FitTogether, IsProgress, Serves};
-ghost use Rattle.program_bounds.specs.Tables.{AreFresh, facts_of};
+ghost use Rattle.program_bounds.specs.Tables.{AreFresh, CanServe, ServesUnit, facts_of};
 
 use crate::giving::give;
 use crate::known::{Tables, around};
@@ -23,13 +21,9 @@ pub(crate) fn serve_stale(
     tables: &mut Tables,
     unit: usize,
 ) -> Result<bool, Memory>
-    requires fit { FitTogether graphs.now.items }
-    requires callers { AreUnitCallers graphs.now.items callers.now.items }
-    requires progress { IsProgress graphs.now.items (facts_of tables.old) }
-    requires fresh { AreFresh graphs.now.items tables.old }
+    requires can { CanServe graphs.now.items callers.now.items tables.old }
     requires there { unit < length graphs.now.items }
-    ensures serves { IfOk result (λ raised.
-        Serves graphs.now.items unit (facts_of tables.old) (facts_of tables.new) raised) }
+    ensures serves { IfOk result (ServesUnit graphs.now.items unit tables.old tables.new) }
     ensures fresh { OnOk result (AreFresh graphs.now.items tables.new) }
 {
     if !tables.entries[unit].is_reached() {
@@ -52,14 +46,10 @@ fn serve(
     tables: &mut Tables,
     unit: usize,
 ) -> Result<bool, Memory>
-    requires fit { FitTogether graphs.now.items }
-    requires callers { AreUnitCallers graphs.now.items callers.now.items }
-    requires progress { IsProgress graphs.now.items (facts_of tables.old) }
-    requires fresh { AreFresh graphs.now.items tables.old }
+    requires can { CanServe graphs.now.items callers.now.items tables.old }
     requires there { unit < length graphs.now.items }
     requires entered { is_reached (row_at (facts_of tables.old).entries unit) ≡ true }
-    ensures serves { IfOk result (λ raised.
-        Serves graphs.now.items unit (facts_of tables.old) (facts_of tables.new) raised) }
+    ensures serves { IfOk result (ServesUnit graphs.now.items unit tables.old tables.new) }
     ensures fresh { OnOk result (AreFresh graphs.now.items tables.new) }
 {
     let graph = &graphs[unit];

@@ -26,6 +26,7 @@ use Rattle.flow_graph.specs.Machines.{graph_code, graph_machine, machine_of, nod
 use Rattle.flow_graph.specs.Numbering.{is_in}
 use Rattle.flow_graph.specs.Paths.{HasEdge}
 use Rattle.flow_graph.specs.RunFrames.{IsRunFrame}
+use Rattle.flow_graph.specs.RunSteps.{cheaper_in_runs, same_in_runs}
 use Rattle.graph_edit.specs.Accesses.{assigns_var}
 use Rattle.graph_edit.specs.ChangeLaws.{changed_not}
 use Rattle.graph_edit.specs.InsertionRuns.{BothAssign}
@@ -33,7 +34,6 @@ use Rattle.graph_edit.specs.Insertions.{changed}
 use Rattle.dead_code.specs.Liveness.{IsLiveAfter, IsLiveBefore}
 use Rattle.dead_code.specs.Pruned.{pruned_from, removed_if}
 use Rattle.dead_code.specs.PrunedLaws.{live_back, live_read, pruned_get}
-use Rattle.extend_flow.specs.RunSteps.{cheaper_in_runs, same_in_runs}
 
 -- ---- what is read
 

@@ -18,7 +18,7 @@ use Rattle.path_laws.specs.Paths.{HaveShape, has_bit}
 use Rattle.path_laws.specs.Says.{not_says, off_says}
 use Rattle.dead_code.specs.LiveRows.{TellLive}
 use Rattle.dead_code.specs.Liveness.{IsLiveAfter, IsLiveBefore}
-use Rattle.unread_div.specs.Flags.{AreFlagsBelow, FitsRows, NoDivision, NoFlag, TellDeadDivisions, TellUnread, divisor_in, is_dead_by, is_division}
+use Rattle.unread_div.specs.Flags.{AreFlagsBelow, HaveLiveBit, NoDivision, NoFlag, TellDeadDivisions, TellUnread, divisor_in, is_dead_division_by, is_quotient}
 use Rattle.cond_flow.specs.KnownBefore.{IsKnownBefore, IsOnlyKnownBefore}
 use Rattle.cond_flow.specs.Rules.{Rules}
 use Rattle.graph_edit.specs.Flagged.{flag_at, graph_flagged}
@@ -67,7 +67,7 @@ division_is graph n node here d =
     same_Some node (Assign d.var (Binary d.op d.left d.right) d.next) (sym here ∙ d.is)
 
 -- a right side that divides is binary
-binary_of : (rhs : Rhs) → is_division rhs ≡ true
+binary_of : (rhs : Rhs) → is_quotient rhs ≡ true
     → (op : Op) × (a : Operand) × (b : Operand) × (rhs ≡ Binary op a b) × (is_dividing op ≡ true)
 binary_of (Plain a) e = cc
 binary_of (Unary op a) e = cc
@@ -93,10 +93,10 @@ module _ (graph : GraphShape) (can : CanMake graph.vars graph.received graph.nod
     dead_only dead =
         (off_says (has_bit rows x next)).1 (λ on. dead (next, assign_edge graph.nodes n x next rhs here, (tells next x next_low var_low).0 on))
 
-    assign_says : (is_dead_by rows (Assign x rhs next) ≡ true) ↔ IsDeadDivision graph n
+    assign_says : (is_dead_division_by rows (Assign x rhs next) ≡ true) ↔ IsDeadDivision graph n
     assign_says = (
       λ e.
-          let parts = and_parts (is_division rhs) (not (has_bit rows x next)) e in
+          let parts = and_parts (is_quotient rhs) (not (has_bit rows x next)) e in
           let binary = binary_of rhs parts.0 in
           record {
             var = x;
@@ -113,11 +113,11 @@ module _ (graph : GraphShape) (can : CanMake graph.vars graph.received graph.nod
           let same_var : d.var ≡ x = cc in
           let same_rhs : rhs ≡ Binary d.op d.left d.right = cc in
           let free : ¬ (IsLiveAfter graph x n) = subst (λ y. ¬ (IsLiveAfter graph y n)) same_var d.dead in
-          ap (λ b. b && not (has_bit rows x next)) (ap is_division same_rhs ∙ d.divides) ∙ ap not (dead_only free),
+          ap (λ b. b && not (has_bit rows x next)) (ap is_quotient same_rhs ∙ d.divides) ∙ ap not (dead_only free),
     )
 
   -- the rows have what is asked of them
-  pub fits_rows : (n : ℕ) (node : Node) → slice_get graph.nodes n ≡ Some node → FitsRows rows node
+  pub fits_rows : (n : ℕ) (node : Node) → slice_get graph.nodes n ≡ Some node → HaveLiveBit rows node
   fits_rows n (Start next) here = tt
   fits_rows n (Skip next) here = tt
   fits_rows n (Assign x rhs next) here =
@@ -131,7 +131,7 @@ module _ (graph : GraphShape) (can : CanMake graph.vars graph.received graph.nod
 
   -- a node that is no assignment is no division
   pub dead_says : (n : ℕ) (node : Node) → slice_get graph.nodes n ≡ Some node
-      → (is_dead_by rows node ≡ true) ↔ IsDeadDivision graph n
+      → (is_dead_division_by rows node ≡ true) ↔ IsDeadDivision graph n
   dead_says n (Start next) here = (λ e. cc, λ d. (let same = division_is graph n (Start next) here d in cc))
   dead_says n (Skip next) here = (λ e. cc, λ d. (let same = division_is graph n (Skip next) here d in cc))
   dead_says n (Assign x rhs next) here = assign_says n x next rhs here

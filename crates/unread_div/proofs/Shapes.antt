@@ -23,7 +23,7 @@ use Rattle.flow_graph.specs.Edges.{IsSplit}
 use Rattle.flow_graph.specs.Graphs.{GraphShape, IsGraph, succs_of}
 use Rattle.flow_graph.specs.KeepsLaws.{same_globals}
 use Rattle.flow_graph.specs.Machines.{graph_machine, machine_of}
-use Rattle.flow_graph.specs.Passes.{GraphKeeps}
+use Rattle.flow_graph.specs.Passes.{GraphKeeps, KeepsSplit, KeepsSuccs}
 use Rattle.flow_graph.specs.RunFrames.{IsRunFrame}
 use Rattle.graph_edit.specs.ChangeLaws.{changed_not, changed_succs}
 use Rattle.graph_edit.specs.InsertionGraphs.{rewritten_calls}
@@ -48,7 +48,7 @@ use Rattle.zero_flow.specs.EdgeLaws.{of_holds}
 use Rattle.zero_flow.specs.ZeroFacts.{BelowZeroFact, ZeroFactHolds, allows, is_zero}
 use Rattle.zero_flow.specs.ZeroRules.{zero_rules}
 use Rattle.zero_flow.specs.Zeros.{zero_of}
-use Rattle.unread_div.specs.Unread.{IsDeadDivision, IsNeverZero, IsRuledOut, IsUnread, IsUnreadAt, KeepsReadDivisions, KeepsSplit, KeepsSuccs, bounds_have_zero, may_be_nought_before}
+use Rattle.unread_div.specs.Unread.{IsDeadDivision, IsNeverZero, IsRuledOut, IsUnread, IsUnreadAt, KeepsReadDivisions, bounds_have_zero, may_be_nought_before}
 use Rattle.unread_div.proofs.Agreement.{MayGo, lessened_cheaper, lessened_same}
 
 -- ---- what is never 0

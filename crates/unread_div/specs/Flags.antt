@@ -20,16 +20,16 @@ use Rattle.unread_div.specs.Unread.{IsDeadDivision, IsUnreadAt}
 -- ---- one node
 
 -- the right side is a quotient or a remainder
-abbrev pub is_division : Rhs → Bool
-is_division (Plain a) = false
-is_division (Unary op a) = false
-is_division (Binary op a b) = is_dividing op
+abbrev pub is_quotient : Rhs → Bool
+is_quotient (Plain a) = false
+is_quotient (Unary op a) = false
+is_quotient (Binary op a b) = is_dividing op
 
 -- the node assigns one
 abbrev pub divides_there : Node → Bool
 divides_there (Start next) = false
 divides_there (Skip next) = false
-divides_there (Assign x rhs next) = is_division rhs
+divides_there (Assign x rhs next) = is_quotient rhs
 divides_there (Print a next) = false
 divides_there (Guard test number next) = false
 divides_there (Call into unit operands next) = false
@@ -37,15 +37,15 @@ divides_there (Test test taken other) = false
 divides_there (Return a) = false
 
 -- and its variable is not live before its successor, by rows of what is live
-abbrev pub is_dead_by : List (List Bool) → Node → Bool
-is_dead_by live (Start next) = false
-is_dead_by live (Skip next) = false
-is_dead_by live (Assign x rhs next) = is_division rhs && not (has_bit live x next)
-is_dead_by live (Print a next) = false
-is_dead_by live (Guard test number next) = false
-is_dead_by live (Call into unit operands next) = false
-is_dead_by live (Test test taken other) = false
-is_dead_by live (Return a) = false
+abbrev pub is_dead_division_by : List (List Bool) → Node → Bool
+is_dead_division_by live (Start next) = false
+is_dead_division_by live (Skip next) = false
+is_dead_division_by live (Assign x rhs next) = is_quotient rhs && not (has_bit live x next)
+is_dead_division_by live (Print a next) = false
+is_dead_division_by live (Guard test number next) = false
+is_dead_division_by live (Call into unit operands next) = false
+is_dead_division_by live (Test test taken other) = false
+is_dead_division_by live (Return a) = false
 
 -- the second operand of a right side, where it is binary
 abbrev pub divisor_of : Rhs → Option Operand
@@ -65,15 +65,15 @@ divisor_in (Test test taken other) = None
 divisor_in (Return a) = None
 
 -- the rows have the bit that is asked for there
-abbrev pub FitsRows : List (List Bool) → Node → Type 0
-FitsRows live (Start next) = Unit {0}
-FitsRows live (Skip next) = Unit {0}
-FitsRows live (Assign x rhs next) = (next < length live) × (x < length (row_of live next))
-FitsRows live (Print a next) = Unit {0}
-FitsRows live (Guard test number next) = Unit {0}
-FitsRows live (Call into unit operands next) = Unit {0}
-FitsRows live (Test test taken other) = Unit {0}
-FitsRows live (Return a) = Unit {0}
+abbrev pub HaveLiveBit : List (List Bool) → Node → Type 0
+HaveLiveBit live (Start next) = Unit {0}
+HaveLiveBit live (Skip next) = Unit {0}
+HaveLiveBit live (Assign x rhs next) = (next < length live) × (x < length (row_of live next))
+HaveLiveBit live (Print a next) = Unit {0}
+HaveLiveBit live (Guard test number next) = Unit {0}
+HaveLiveBit live (Call into unit operands next) = Unit {0}
+HaveLiveBit live (Test test taken other) = Unit {0}
+HaveLiveBit live (Return a) = Unit {0}
 
 -- ---- all nodes
 

@@ -9,8 +9,7 @@ use Rattle.mir_base.specs.Numbers.{is_dividing}
 use Rattle.mir_base.specs.Units.{operand_value}
 use Rattle.flow_graph.specs.declared.nodes.Node.TheVariants.{Assign}
 use Rattle.flow_graph.specs.Dividing.{DividesOf}
-use Rattle.flow_graph.specs.Edges.{IsSplit}
-use Rattle.flow_graph.specs.Graphs.{GraphShape, succs_at}
+use Rattle.flow_graph.specs.Graphs.{GraphShape}
 use Rattle.flow_graph.specs.Machines.{machine_of}
 use Rattle.flow_graph.specs.RunFrames.{IsRunFrame}
 use Rattle.graph_edit.specs.Flagged.{pruned_from}
@@ -100,11 +99,3 @@ abbrev pub KeepsReadDivisions : GraphShape → GraphShape → Type 0
 KeepsReadDivisions graph lessened = (n x : ℕ) (op : Op) (left right : Operand)
     → DividesOf graph.nodes n x op left right
     → DividesOf lessened.nodes n x op left right ⊎ IsUnneeded graph n x right
-
--- each node has the successors that it had
-abbrev pub KeepsSuccs : GraphShape → GraphShape → Type 0
-KeepsSuccs graph lessened = (n : ℕ) → succs_at lessened.nodes n ≡ succs_at graph.nodes n
-
--- a split graph stays split
-abbrev pub KeepsSplit : GraphShape → GraphShape → Type 0
-KeepsSplit graph lessened = IsSplit graph.nodes → IsSplit lessened.nodes

@@ -3,7 +3,7 @@ ghost use Rattle.std.specs.Prelude.{◌≡◌, false, length, IfOk};
 ghost use Rattle.mir_base.specs.Numbers.{is_dividing};
 ghost use Rattle.path_laws.specs.Paths.{HaveShape};
 ghost use Rattle.dead_code.specs.LiveRows.{TellLive};
-ghost use Rattle.unread_div.specs.Flags.{FitsRows, NoDivision, NoFlag, TellDeadDivisions, divides_there, is_dead_by, is_division};
+ghost use Rattle.unread_div.specs.Flags.{HaveLiveBit, NoDivision, NoFlag, TellDeadDivisions, divides_there, is_dead_division_by, is_quotient};
 
 use bit_rows::Rows;
 use dead_code::live_rows;
@@ -51,11 +51,11 @@ fn dead_by(alloc: Global, graph: &Graph, live: &Rows) -> Result<Vec<bool>, Memor
 
 /// Whether a node is a division whose variable is not live behind it.
 fn is_dead(node: &Node, live: &Rows) -> bool
-    requires { FitsRows live.now node.now }
-    ensures { result ≡ is_dead_by live.now node.now }
+    requires { HaveLiveBit live.now node.now }
+    ensures { result ≡ is_dead_division_by live.now node.now }
 {
     match node {
-        Node::Assign(x, rhs, next) => is_division(rhs) && !live.get(*next, *x),
+        Node::Assign(x, rhs, next) => is_quotient(rhs) && !live.get(*next, *x),
         _ => false,
     }
 }
@@ -77,14 +77,14 @@ fn divides_there(node: &Node) -> bool
     ensures { result ≡ divides_there node.now }
 {
     match node {
-        Node::Assign(_, rhs, _) => is_division(rhs),
+        Node::Assign(_, rhs, _) => is_quotient(rhs),
         _ => false,
     }
 }
 
 /// Whether a right side is a quotient or a remainder.
-fn is_division(rhs: &Rhs) -> bool
-    ensures { result ≡ is_division rhs.now }
+fn is_quotient(rhs: &Rhs) -> bool
+    ensures { result ≡ is_quotient rhs.now }
 {
     match rhs {
         Rhs::Plain(_) => false,

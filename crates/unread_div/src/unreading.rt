@@ -1,8 +1,8 @@
 // The graph without the divisions that nothing reads.
 ghost use Rattle.std.specs.Prelude.{IfOk};
-ghost use Rattle.flow_graph.specs.Passes.{GraphKeeps};
+ghost use Rattle.flow_graph.specs.Passes.{GraphKeeps, KeepsSplit, KeepsSuccs};
 ghost use Rattle.unread_div.specs.Flags.{TellUnread};
-ghost use Rattle.unread_div.specs.Unread.{IsOnlyUnread, IsUnread, KeepsReadDivisions, KeepsSplit, KeepsSuccs};
+ghost use Rattle.unread_div.specs.Unread.{IsOnlyUnread, IsUnread, KeepsReadDivisions};
 
 use crate::copying::copied;
 use crate::dead::{dead_divisions, has_flag};

@@ -16,3 +16,6 @@ loop-unit-preserved c = record {
       ]) c.loop-unit.invariant.swept c.in_ok-raised.ensures.serves;
   fresh = c.in_ok-raised.ensures.fresh;
 }
+
+pub serve_stale-requires-clause-can : goal.serve_stale-requires-clause-can
+serve_stale-requires-clause-can c = record { fit = c.requires.fit; are_callers = c.requires.are_callers; progress = c.loop-unit.invariant.swept.progress; fresh = c.loop-unit.invariant.fresh }

@@ -20,3 +20,6 @@ loop-count-preserved c =
           ]) c.loop-count.invariant.swept c.in_ok-raised.ensures.serves;
       fresh = c.in_ok-raised.ensures.fresh;
     }
+
+pub serve_stale-requires-clause-can : goal.serve_stale-requires-clause-can
+serve_stale-requires-clause-can c = record { fit = c.requires.fit; are_callers = c.requires.are_callers; progress = c.loop-count.invariant.swept.progress; fresh = c.loop-count.invariant.fresh }

@@ -5,7 +5,8 @@ use Rattle.program_pass.specs.PassProgramLaws.{passed_program}
 use Rattle.program_pass.specs.UnitMakes.{all_passed}
 use Rattle.program_bounds.specs.Tables.{facts_of}
 use Rattle.program_bounds.specs.Programs.{BoundedBy, IsBoundedBetween, IsBoundedProgram}
-use Rattle.program_bounds.specs.ProgramLaws.{bounded_keeps, bounded_only, fit_together, graphs_of}
+use Rattle.program_pass.specs.FrontLaws.{graphs_are}
+use Rattle.program_bounds.specs.ProgramLaws.{bounded_keeps, bounded_only, fit_together}
 use Rattle.program_bounds.proofs.programs.bounded_program.Goals as goal
 use Rattle.program_bounds.proofs.programs.bounded_program.Goals.{In_ok-target}
 
@@ -30,7 +31,7 @@ returns-clause-bounded c =
     let to = target (goal.at.returns-clause-bounded c).In_ok-target in
     let graphs = c.in_ok-graphs.graphs.items in
     subst (IsBoundedProgram c.args.program.now) (sym c.in_ok-target.ensures)
-    (record { graphs = graphs; are_graphs = graphs_of c.args.program.now.units graphs c.in_ok-graphs.ensures; known = known; least = c.in_ok-tables.ensures.least; passed = all_passed (BoundedBy known) (IsBoundedBetween known) c.args.program.now to refl c.in_ok-units.ensures })
+    (record { graphs = graphs; are_graphs = graphs_are c.args.program.now.units graphs c.in_ok-graphs.ensures; known = known; least = c.in_ok-tables.ensures.least; passed = all_passed (BoundedBy known) (IsBoundedBetween known) c.args.program.now to refl c.in_ok-units.ensures })
 
 pub returns-clause-keeps : goal.returns-clause-keeps
 returns-clause-keeps c =

@@ -24,7 +24,7 @@ give-requires c =
     let known = reached_known (row_at old.entries u) c.requires.entered in
     let are = subst (λ r. AreHanded BelowFact r graph c.in_ok-solved.solved.handed.items) c.around-outside.ensures c.in_ok-solved.ensures.handed in
     subst (λ l. CanGive graph u (map (option_map (λ list. list.items)) l) old) (sym c.as_slice.ensures.value)
-    (can_give graphs c.requires.fit u graph at old c.requires.progress known.0 known.1 c.in_ok-solved.solved.handed.items are)
+    (can_give graphs c.requires.can.fit u graph at old c.requires.can.progress known.0 known.1 c.in_ok-solved.solved.handed.items are)
 
 pub returns-clause-serves : goal.returns-clause-serves
 returns-clause-serves c =
@@ -37,7 +37,7 @@ returns-clause-serves c =
     let known = reached_known (row_at old.entries u) c.requires.entered in
     let are = subst (λ r. AreHanded BelowFact r graph c.in_ok-solved.solved.handed.items) c.around-outside.ensures c.in_ok-solved.ensures.handed in
     let gives = subst (λ l. GivesTo graph u (map (option_map (λ list. list.items)) l) (length graph.nodes) old new c.in_ok-raised.raised) c.as_slice.ensures.value c.in_ok-raised.ensures.gives in
-    unit_serves graphs c.requires.fit u graph at old c.requires.progress known.0 known.1 c.in_ok-solved.solved.handed.items are new c.in_ok-raised.raised gives
+    unit_serves graphs c.requires.can.fit u graph at old c.requires.can.progress known.0 known.1 c.in_ok-solved.solved.handed.items are new c.in_ok-raised.raised gives
 
 pub returns-clause-fresh : goal.returns-clause-fresh
 returns-clause-fresh c =
@@ -52,9 +52,9 @@ returns-clause-fresh c =
     let known = reached_known (row_at old.entries u) c.requires.entered in
     let are = subst (λ r. AreHanded BelowFact r graph c.in_ok-solved.solved.handed.items) c.around-outside.ensures c.in_ok-solved.ensures.handed in
     let gives = subst (λ l. GivesTo graph u (map (option_map (λ list. list.items)) l) (length graph.nodes) old new c.in_ok-raised.raised) c.as_slice.ensures.value c.in_ok-raised.ensures.gives in
-    let units_are : c.units-list.result.now ≡ list_at callers u = c.units-list.ensures ∙ c.index.ensures ∙ get_or_default callers u _ [] (omega (arith, c.requires.there, c.requires.callers.long)) in
+    let units_are : c.units-list.result.now ≡ list_at callers u = c.units-list.ensures ∙ c.index.ensures ∙ get_or_default callers u _ [] (omega (arith, c.requires.there, c.requires.can.are_callers.long)) in
     subst (FreshAreServed graphs new c.give.new.tables.stale.items) (sym c.in_ok-raised.ensures.kept)
-    (unit_fresh graphs c.requires.fit u graph at old c.requires.progress known.0 known.1 c.in_ok-solved.solved.handed.items are new c.in_ok-raised.raised gives
-    callers c.requires.callers stale c.give.new.tables.stale.items c.args.tables.now.made.items c.in_ok-solved.solved.made c.requires.fresh
+    (unit_fresh graphs c.requires.can.fit u graph at old c.requires.can.progress known.0 known.1 c.in_ok-solved.solved.handed.items are new c.in_ok-raised.raised gives
+    callers c.requires.can.are_callers stale c.give.new.tables.stale.items c.args.tables.now.made.items c.in_ok-solved.solved.made c.requires.can.fresh
     (subst (λ r. IsMadeWithin BelowFact r graph c.in_ok-solved.solved.made) c.around-outside.ensures c.in_ok-solved.ensures.made)
     (subst (λ l. RaisedMarked l u old new (slice_set stale u false) c.give.new.tables.stale.items) units_are c.in_ok-raised.ensures.marked))
