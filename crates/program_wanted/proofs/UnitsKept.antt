@@ -4,6 +4,7 @@ use Rattle.std.proofs.Common.{◌≡◌, ℕ, List, Some, slice_get, ap, subst}
 use Rattle.std.proofs.lemmas.Option.{slice_get_within}
 use Rattle.mir_base.specs.Shapes.{IsProgram, ProgramShape}
 use Rattle.flow_graph.specs.Graphs.{CanMake, GraphShape}
+use Rattle.program_pass.specs.Fronts.{AreFronts}
 use Rattle.program_pass.specs.GraphPrograms.{graph_or_empty, shared_in}
 use Rattle.wanted_bits.specs.Made.{IsMadeNarrowed}
 use Rattle.wanted_bits.specs.Narrowed.{AreNarrowed}
@@ -12,7 +13,7 @@ use Rattle.program_wanted.specs.ProgramRemoves.{ProgramRemovesMost}
 use Rattle.program_wanted.specs.ProgramRuns.{ProgramRunsAgree}
 use Rattle.program_wanted.specs.UnitPaths.{ProgramPathsKept}
 use Rattle.program_wanted.specs.WantedProgramLaws.{are_units, is_program, least_sides, made, made_narrowed, own, own_least, whole}
-use Rattle.program_wanted.specs.WantedPrograms.{AreFronts, WantedUnits}
+use Rattle.program_wanted.specs.WantedPrograms.{WantedUnits}
 use Rattle.program_wanted.proofs.PathsStay.{paths_stay}
 use Rattle.program_wanted.proofs.RunsBeside.{runs_agree, unit_numbers, unit_shifts, unit_wanted}
 use Rattle.program_wanted.proofs.TakenOver.{removed_goes}

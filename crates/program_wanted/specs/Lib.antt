@@ -2,6 +2,7 @@ pub mod Demands
 pub mod Sweeps
 pub mod Stale
 pub mod Preparing
+pub mod Serving
 pub mod DemandStacks
 pub mod DemandLaws
 pub mod WantedPrograms

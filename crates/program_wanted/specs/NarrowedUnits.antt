@@ -9,7 +9,7 @@ use Rattle.wanted_bits.specs.MostRemoved.{TellShifts}
 use Rattle.wanted_bits.specs.Narrowed.{IsNarrowedBy}
 use Rattle.wanted_bits.specs.Wanted.{AreLeastWantedBy}
 use Rattle.program_wanted.specs.Demands.{AreLeastDemands, Demands, asked_at}
-use Rattle.program_wanted.specs.WantedPrograms.{AreGraphsOf}
+use Rattle.program_pass.specs.Fronts.{AreGraphsOf}
 
 -- the unit is this graph, cleaned and laid out
 abbrev pub IsLaidFrom : GraphShape → UnitShape → Type 0

@@ -1,6 +1,6 @@
 -- Laws: the graphs of the units of a program fit together; what is made of the units by the least demands keeps the
 -- program; and a program has one such program. For proofs only.
-use Rattle.std.proofs.Common.{◌≡◌, ℕ, suc, ◌<◌, ◌≤◌, inl, inr, List, [], ◌∷◌, ◌++◌, length, slice_get, Some, refl, sym, ap, ◌∙◌, subst, arith}
+use Rattle.std.proofs.Common.{◌≡◌, ℕ, suc, ◌<◌, ◌≤◌, List, [], ◌∷◌, length, slice_get, Some, refl, sym, ap, ◌∙◌, subst, arith}
 use Rattle.std.proofs.lemmas.Option.{slice_get_within}
 use Rattle.mir_base.specs.LockstepLaws.{cheaper_refl}
 use Rattle.mir_base.specs.UnitLaws.{same_refl}
@@ -10,13 +10,15 @@ use Rattle.flow_graph.specs.Graphs.{GraphShape, CanMake}
 use Rattle.flow_graph.specs.KeepsLaws.{same_globals}
 use Rattle.flow_graph.specs.MachineLaws.{graph_hands}
 use Rattle.flow_graph.specs.Machines.{machine_of}
-use Rattle.flow_graph.specs.ListLaws.{get_push, some_at}
+use Rattle.flow_graph.specs.ListLaws.{some_at}
 use Rattle.flow_graph.specs.OneLaws.{lowered_is_one}
 use Rattle.jump_clean.specs.Cleaned.{IsClean}
 use Rattle.jump_clean.specs.CleanLaws.{clean_is_one}
+use Rattle.program_pass.specs.FrontLaws.{graphs_are}
+use Rattle.program_pass.specs.Fronts.{AreFronts, AreGraphsOf}
 use Rattle.program_pass.specs.GraphPrograms.{IsGraphProgram, graph_numbered, graph_or_empty, shared_in}
 use Rattle.program_pass.specs.PassOneLaws.{places_same, program_only}
-use Rattle.program_pass.specs.PassPrograms.{AllPassed, CleanedLaid, KeepsRuns, LoweredClean, PassRelation}
+use Rattle.program_pass.specs.PassPrograms.{AllPassed, CleanedLaid, KeepsRuns, PassRelation}
 use Rattle.program_pass.specs.PassProgramLaws.{MadeOf, at, between_at, graph_program, graphs, graphs_count, middles, middles_of, passes_keep}
 use Rattle.program_pass.specs.RefitLaws.{called_fits}
 use Rattle.node_list.specs.Lists.{list_at}
@@ -30,32 +32,11 @@ use Rattle.program_wanted.specs.DemandLaws.{demands_one, enough, made_sides}
 use Rattle.program_wanted.specs.DemandStacks.{LeastSides, Sides, narrowed_keep}
 use Rattle.program_wanted.specs.NarrowedUnits.{AreNarrowedUnits, IsLaidFrom}
 use Rattle.program_wanted.specs.Sweeps.{FitTogether}
-use Rattle.program_wanted.specs.WantedPrograms.{AreFronts, AreGraphsOf, IsWantedProgram, NarrowedTo, NarrowsTo, WantedUnit, WantedUnits}
+use Rattle.program_wanted.specs.WantedPrograms.{IsWantedProgram, NarrowedTo, NarrowsTo, WantedUnit, WantedUnits}
 
 -- ---- the graphs
 
--- graphs of the first units
-abbrev pub AreFrontsBelow : List UnitShape → List GraphShape → Type 0
-AreFrontsBelow units gs = (u : ℕ) (unit : UnitShape) (graph : GraphShape)
-    → slice_get units u ≡ Some unit → slice_get gs u ≡ Some graph
-    → (lowered : GraphShape) × LoweredClean unit lowered graph
-
--- one more
-pub fronts_more : (units : List UnitShape) (gs more : List GraphShape) (number : ℕ) (unit : UnitShape) (lowered graph : GraphShape) → length gs ≡ number → AreFrontsBelow units gs → slice_get units number ≡ Some unit → LoweredClean unit lowered graph → more ≡ gs ++ graph ∷ [] → AreFrontsBelow units more
-fronts_more units gs more number unit lowered graph long are at made is u v g at_v at_g = elim (get_push gs graph g u (sym (ap (λ l. slice_get l u) is) ∙ at_g)) [
-  | inl old ↦ are u v g at_v old
-  | inr last ↦
-      let number_is : u ≡ number = last.0 ∙ long in
-      let both : Some unit ≡ Some v = sym at ∙ ap (slice_get units) (sym number_is) ∙ at_v in
-      let same : unit ≡ v = cc in
-      (lowered, subst (λ h. LoweredClean v lowered h) last.1 (subst (λ s. LoweredClean s lowered graph) same made))
-]
-
--- the exact graphs
-pub graphs_of : (units : List UnitShape) (gs : List GraphShape) → AreFronts units gs → AreGraphsOf units gs
-graphs_of units gs are = record { long = are.long; are = λ u unit graph at at'. let m = are.are u unit graph at at' in (m.0, (m.1.is_lowered, m.1.is_cleaned)) }
-
--- they fit together
+-- the graphs of the units of a program fit together
 pub fit_together : (globals : List (List ℕ)) (units : List UnitShape) (gs : List GraphShape) → IsProgram globals units → AreFronts units gs → FitTogether gs
 fit_together globals units gs program are = record {
   some = omega (arith, program.some_unit, are.long);
@@ -205,7 +186,7 @@ module _ (demands : Demands) (gs : List GraphShape) (source target : ProgramShap
 
   abbrev pub are_units : AreNarrowedUnits source target own made
   are_units = record {
-    are_graphs = subst (AreGraphsOf source.units) (sym same) (graphs_of source.units gs fronts);
+    are_graphs = subst (AreGraphsOf source.units) (sym same) (graphs_are source.units gs fronts);
     demands = demands;
     least = own_least;
     long = made_long;

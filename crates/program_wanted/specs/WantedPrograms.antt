@@ -1,23 +1,12 @@
 -- The program in which no unit computes what no other needs of it. Cited by contracts.
-use Rattle.std.specs.Prelude.{◌≡◌, ℕ, List, length, slice_get, Some}
+use Rattle.std.specs.Prelude.{ℕ, List}
 use Rattle.mir_base.specs.Shapes.{ProgramShape, UnitShape}
 use Rattle.flow_graph.specs.Graphs.{GraphShape}
-use Rattle.flow_graph.specs.Lowered.{IsLowered}
-use Rattle.jump_clean.specs.Cleaned.{IsClean}
-use Rattle.program_pass.specs.PassPrograms.{AllPassed, IsPassedProgram, LoweredClean, PassRelation, PassedAt}
+use Rattle.program_pass.specs.Fronts.{AreGraphsOf}
+use Rattle.program_pass.specs.PassPrograms.{AllPassed, IsPassedProgram, PassRelation, PassedAt}
 use Rattle.wanted_bits.specs.Made.{IsMadeNarrowed}
 use Rattle.wanted_bits.specs.Narrowed.{IsNarrowedBy}
 use Rattle.program_wanted.specs.Demands.{AreLeastDemands, Demands, asked_at}
-
--- the graph of a unit with clean jumps
-abbrev pub IsGraphOf : UnitShape → GraphShape → Type 0
-IsGraphOf unit graph = (lowered : GraphShape) × (IsLowered unit lowered × IsClean lowered graph)
-
--- the graphs of the units
-pub record AreGraphsOf (units : List UnitShape) (graphs : List GraphShape) : Type 0 where
-  pub long : length graphs ≡ length units
-  pub are : (u : ℕ) (unit : UnitShape) (graph : GraphShape) → slice_get units u ≡ Some unit
-      → slice_get graphs u ≡ Some graph → IsGraphOf unit graph
 
 -- the least demands that serve all units of a program
 pub record AreProgramDemands (program : ProgramShape) (demands : Demands) : Type 0 where
@@ -38,12 +27,6 @@ pub record IsWantedProgram (source target : ProgramShape) : Type 0 where
   pub passed : IsPassedProgram (NarrowedTo demands) source target
 
 -- ---- what the functions of this crate make
-
--- the graphs of the units, with what they keep
-pub record AreFronts (units : List UnitShape) (graphs : List GraphShape) : Type 0 where
-  pub long : length graphs ≡ length units
-  pub are : (u : ℕ) (unit : UnitShape) (graph : GraphShape) → slice_get units u ≡ Some unit
-      → slice_get graphs u ≡ Some graph → (lowered : GraphShape) × LoweredClean unit lowered graph
 
 -- the graph in between is narrowed too
 abbrev pub NarrowsTo : Demands → PassRelation

@@ -2,8 +2,7 @@
 ghost use Rattle.std.specs.Prelude.{◌≡◌, ◌<◌, length, IfOk, OnOk};
 ghost use Rattle.unit_callers.specs.Calling.{AreUnitCallers};
 ghost use Rattle.program_wanted.specs.Demands.{AreLeastDemands, IsAround};
-ghost use Rattle.program_wanted.specs.Preparing.{AreAskLists, ArePrepared};
-ghost use Rattle.program_wanted.specs.Stale.{FreshAreServed};
+ghost use Rattle.program_wanted.specs.Serving.{CanServe, IsServing};
 ghost use Rattle.program_wanted.specs.Sweeps.{FitTogether, IsProgress, Sweeps};
 ghost use Rattle.program_wanted.specs.Tables.{demands_of};
 
@@ -93,17 +92,13 @@ fn sweep(
     stale: &mut Vec<bool>,
     asks: &mut Vec<UnitAsks>,
 ) -> Result<bool, Memory>
-    requires fit { FitTogether graphs.now.items }
-    requires prepared { ArePrepared graphs.now.items prepared.now.items }
-    requires callers { AreUnitCallers graphs.now.items callers.now.items }
-    requires progress { IsProgress graphs.now.items (demands_of tables.old) }
-    requires fresh { FreshAreServed graphs.now.items (demands_of tables.old) stale.old.items }
-    requires asks { AreAskLists graphs.now.items asks.old.items }
+    requires units { CanServe graphs.now.items prepared.now.items callers.now.items }
+    requires serving { IsServing graphs.now.items (demands_of tables.old) stale.old.items
+        asks.old.items }
     ensures swept { IfOk result (λ raised.
         Sweeps graphs.now.items (demands_of tables.old) (demands_of tables.new) raised) }
-    ensures fresh { OnOk result
-        (FreshAreServed graphs.now.items (demands_of tables.new) stale.new.items) }
-    ensures asks { OnOk result (AreAskLists graphs.now.items asks.new.items) }
+    ensures serving { OnOk result (IsServing graphs.now.items (demands_of tables.new)
+        stale.new.items asks.new.items) }
 {
     let down = sweep_down(alloc, graphs, prepared, callers, tables, stale, asks)?;
     let up = sweep_up(alloc, graphs, prepared, callers, tables, stale, asks)?;
@@ -120,17 +115,13 @@ fn sweep_down(
     stale: &mut Vec<bool>,
     asks: &mut Vec<UnitAsks>,
 ) -> Result<bool, Memory>
-    requires fit { FitTogether graphs.now.items }
-    requires prepared { ArePrepared graphs.now.items prepared.now.items }
-    requires callers { AreUnitCallers graphs.now.items callers.now.items }
-    requires progress { IsProgress graphs.now.items (demands_of tables.old) }
-    requires fresh { FreshAreServed graphs.now.items (demands_of tables.old) stale.old.items }
-    requires asks { AreAskLists graphs.now.items asks.old.items }
+    requires units { CanServe graphs.now.items prepared.now.items callers.now.items }
+    requires serving { IsServing graphs.now.items (demands_of tables.old) stale.old.items
+        asks.old.items }
     ensures swept { IfOk result (λ raised.
         Sweeps graphs.now.items (demands_of tables.old) (demands_of tables.new) raised) }
-    ensures fresh { OnOk result
-        (FreshAreServed graphs.now.items (demands_of tables.new) stale.new.items) }
-    ensures asks { OnOk result (AreAskLists graphs.now.items asks.new.items) }
+    ensures serving { OnOk result (IsServing graphs.now.items (demands_of tables.new)
+        stale.new.items asks.new.items) }
 {
     let mut raised = false;
     for unit in 0..graphs.len() {
@@ -149,17 +140,13 @@ fn sweep_up(
     stale: &mut Vec<bool>,
     asks: &mut Vec<UnitAsks>,
 ) -> Result<bool, Memory>
-    requires fit { FitTogether graphs.now.items }
-    requires prepared { ArePrepared graphs.now.items prepared.now.items }
-    requires callers { AreUnitCallers graphs.now.items callers.now.items }
-    requires progress { IsProgress graphs.now.items (demands_of tables.old) }
-    requires fresh { FreshAreServed graphs.now.items (demands_of tables.old) stale.old.items }
-    requires asks { AreAskLists graphs.now.items asks.old.items }
+    requires units { CanServe graphs.now.items prepared.now.items callers.now.items }
+    requires serving { IsServing graphs.now.items (demands_of tables.old) stale.old.items
+        asks.old.items }
     ensures swept { IfOk result (λ raised.
         Sweeps graphs.now.items (demands_of tables.old) (demands_of tables.new) raised) }
-    ensures fresh { OnOk result
-        (FreshAreServed graphs.now.items (demands_of tables.new) stale.new.items) }
-    ensures asks { OnOk result (AreAskLists graphs.now.items asks.new.items) }
+    ensures serving { OnOk result (IsServing graphs.now.items (demands_of tables.new)
+        stale.new.items asks.new.items) }
 {
     let mut raised = false;
     for count in 0..graphs.len() {

@@ -9,7 +9,6 @@
 #![tactic(auto)]
 
 mod demands;
-mod graphs;
 mod preparing;
 mod programs;
 mod raising;

@@ -1,19 +1,19 @@
 // Programs in which no unit computes what no other needs of it.
 ghost use Rattle.std.specs.Prelude.{◌<◌, ◌≡◌, IfOk, length};
 ghost use Rattle.mir_base.specs.Shapes.{IsProgram};
+ghost use Rattle.program_pass.specs.Fronts.{AreFronts};
 ghost use Rattle.program_pass.specs.PassPrograms.{IsOnly, KeepsRuns};
 ghost use Rattle.program_wanted.specs.Demands.{AreLeastDemands};
 ghost use Rattle.program_wanted.specs.ProgramRemoves.{ProgramRemovesMost};
 ghost use Rattle.program_wanted.specs.ProgramRuns.{ProgramRunsAgree};
 ghost use Rattle.program_wanted.specs.UnitPaths.{ProgramPathsKept};
-ghost use Rattle.program_wanted.specs.WantedPrograms.{AreFronts, AreProgramDemands, IsWantedProgram, WantedUnit, WantedUnits};
+ghost use Rattle.program_wanted.specs.WantedPrograms.{AreProgramDemands, IsWantedProgram, WantedUnit, WantedUnits};
 ghost use Rattle.program_wanted.specs.Tables.{demands_of};
 
 use crate::demands::{Tables, around, least_demands};
-use crate::graphs::graphs_of;
 use flow_graph::Graph;
 use mir_base::{Memory, Program, Unit as MirUnit};
-use program_pass::laid_out;
+use program_pass::{graphs_of, laid_out};
 use std::alloc::Global;
 use wanted_bits::narrow_in;
 

@@ -1,9 +1,9 @@
 // One unit that is served: what is asked for around units is raised to what it asks for.
 ghost use Rattle.std.specs.Prelude.{◌<◌, length, IfOk, OnOk};
-ghost use Rattle.unit_callers.specs.Calling.{AreUnitCallers};
-ghost use Rattle.program_wanted.specs.Preparing.{AreAskLists, ArePrepared, FitsUnit};
+ghost use Rattle.program_wanted.specs.Preparing.{FitsUnit};
+ghost use Rattle.program_wanted.specs.Serving.{CanServe, IsServing};
 ghost use Rattle.program_wanted.specs.Stale.{FreshAreServed};
-ghost use Rattle.program_wanted.specs.Sweeps.{FitTogether, IsProgress, Serves};
+ghost use Rattle.program_wanted.specs.Sweeps.{IsProgress, Serves};
 ghost use Rattle.program_wanted.specs.Tables.{demands_of};
 
 use crate::demands::Tables;
@@ -26,18 +26,14 @@ pub(crate) fn serve_stale(
     asks: &mut Vec<UnitAsks>,
     unit: usize,
 ) -> Result<bool, Memory>
-    requires fit { FitTogether graphs.now.items }
-    requires prepared { ArePrepared graphs.now.items prepared.now.items }
-    requires callers { AreUnitCallers graphs.now.items callers.now.items }
-    requires progress { IsProgress graphs.now.items (demands_of tables.old) }
-    requires fresh { FreshAreServed graphs.now.items (demands_of tables.old) stale.old.items }
-    requires asks { AreAskLists graphs.now.items asks.old.items }
+    requires units { CanServe graphs.now.items prepared.now.items callers.now.items }
+    requires serving { IsServing graphs.now.items (demands_of tables.old) stale.old.items
+        asks.old.items }
     requires there { unit < length graphs.now.items }
     ensures serves { IfOk result (λ raised.
         Serves graphs.now.items unit (demands_of tables.old) (demands_of tables.new) raised) }
-    ensures fresh { OnOk result
-        (FreshAreServed graphs.now.items (demands_of tables.new) stale.new.items) }
-    ensures asks { OnOk result (AreAskLists graphs.now.items asks.new.items) }
+    ensures serving { OnOk result (IsServing graphs.now.items (demands_of tables.new)
+        stale.new.items asks.new.items) }
 {
     if stale[unit] {
         let unit_asks = &mut asks[unit];
@@ -61,9 +57,7 @@ fn serve(
     asks: &mut UnitAsks,
     unit: usize,
 ) -> Result<bool, Memory>
-    requires fit { FitTogether graphs.now.items }
-    requires prepared { ArePrepared graphs.now.items prepared.now.items }
-    requires callers { AreUnitCallers graphs.now.items callers.now.items }
+    requires units { CanServe graphs.now.items prepared.now.items callers.now.items }
     requires progress { IsProgress graphs.now.items (demands_of tables.old) }
     requires fresh { FreshAreServed graphs.now.items (demands_of tables.old) stale.old.items }
     requires asks { FitsUnit graphs.now.items unit asks.old }

@@ -20,3 +20,6 @@ returns-then-not-raised c =
     let old = demands_of c.loop-stale.tables in
     let after = demands_of c.sweep.new.tables in
     least_at_rest graphs old after (subst (Sweeps graphs old after) c.if-not-raised.true c.in_ok-raised.ensures.swept)
+
+pub sweep-requires-clause-units : goal.sweep-requires-clause-units
+sweep-requires-clause-units c = record { fit = c.requires.fit; prepared = c.in_ok-prepared.ensures; callers = c.requires.callers }

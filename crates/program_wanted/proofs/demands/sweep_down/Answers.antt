@@ -5,7 +5,7 @@ use Rattle.program_wanted.proofs.UnitServes.{sweeps_more, sweeps_none}
 use Rattle.program_wanted.proofs.demands.sweep_down.Goals as goal
 
 pub loop-unit-init : goal.loop-unit-init
-loop-unit-init c = record { swept = sweeps_none c.args.graphs.now.items (λ v. v < 0) (demands_of c.args.tables.now) (λ v lt. omega (arith, lt)) c.requires.progress; fresh = c.requires.fresh; asks = c.requires.asks }
+loop-unit-init c = record { swept = sweeps_none c.args.graphs.now.items (λ v. v < 0) (demands_of c.args.tables.now) (λ v lt. omega (arith, lt)) c.requires.serving.progress; serving = c.requires.serving }
 
 pub loop-unit-preserved : goal.loop-unit-preserved
 loop-unit-preserved c = record {
@@ -14,6 +14,5 @@ loop-unit-preserved c = record {
         | inl e ↦ inr e
         | inr ne ↦ inl (omega (arith, lt, ne))
       ]) c.loop-unit.invariant.swept c.in_ok-raised.ensures.serves;
-  fresh = c.in_ok-raised.ensures.fresh;
-  asks = c.in_ok-raised.ensures.asks;
+  serving = c.in_ok-raised.ensures.serving;
 }

@@ -5,7 +5,7 @@ use Rattle.program_wanted.proofs.UnitServes.{sweeps_more, sweeps_none}
 use Rattle.program_wanted.proofs.demands.sweep_up.Goals as goal
 
 pub loop-count-init : goal.loop-count-init
-loop-count-init c = record { swept = sweeps_none c.args.graphs.now.items _ (demands_of c.args.tables.now) (λ v in_range. omega (arith, in_range.0, in_range.1)) c.requires.progress; fresh = c.requires.fresh; asks = c.requires.asks }
+loop-count-init c = record { swept = sweeps_none c.args.graphs.now.items _ (demands_of c.args.tables.now) (λ v in_range. omega (arith, in_range.0, in_range.1)) c.requires.serving.progress; serving = c.requires.serving }
 
 pub loop-count-preserved : goal.loop-count-preserved
 loop-count-preserved c =
@@ -18,6 +18,5 @@ loop-count-preserved c =
             | inl e ↦ inr e
             | inr ne ↦ inl (in_range.0, omega (arith, in_range.0, in_range.1, ne, c.len.ensures, c.loop-count-test.true, c.loop-count.auto.count-end))
           ]) c.loop-count.invariant.swept c.in_ok-raised.ensures.serves;
-      fresh = c.in_ok-raised.ensures.fresh;
-      asks = c.in_ok-raised.ensures.asks;
+      serving = c.in_ok-raised.ensures.serving;
     }

@@ -8,7 +8,8 @@ use Rattle.program_wanted.specs.ProgramRuns.{ProgramRunsAgree}
 use Rattle.program_wanted.specs.Tables.{demands_of}
 use Rattle.program_wanted.specs.UnitPaths.{ProgramPathsKept}
 use Rattle.program_wanted.specs.WantedPrograms.{IsWantedProgram, NarrowedTo, NarrowsTo}
-use Rattle.program_wanted.specs.WantedProgramLaws.{fit_together, graphs_of, wanted_keeps, wanted_only}
+use Rattle.program_pass.specs.FrontLaws.{graphs_are}
+use Rattle.program_wanted.specs.WantedProgramLaws.{fit_together, wanted_keeps, wanted_only}
 use Rattle.program_wanted.proofs.UnitsKept.{wanted_agree, wanted_paths, wanted_removes}
 use Rattle.program_wanted.proofs.programs.wanted_program.Goals as goal
 use Rattle.program_wanted.proofs.programs.wanted_program.Goals.{In_ok-target}
@@ -34,7 +35,7 @@ returns-clause-wanted c =
     let to = target (goal.at.returns-clause-wanted c).In_ok-target in
     let graphs = c.in_ok-graphs.graphs.items in
     subst (IsWantedProgram c.args.program.now) (sym c.in_ok-target.ensures)
-    (record { graphs = graphs; are_graphs = graphs_of c.args.program.now.units graphs c.in_ok-graphs.ensures; demands = demands; least = c.in_ok-tables.ensures; passed = all_passed (NarrowedTo demands) (NarrowsTo demands) c.args.program.now to refl c.in_ok-units.ensures })
+    (record { graphs = graphs; are_graphs = graphs_are c.args.program.now.units graphs c.in_ok-graphs.ensures; demands = demands; least = c.in_ok-tables.ensures; passed = all_passed (NarrowedTo demands) (NarrowsTo demands) c.args.program.now to refl c.in_ok-units.ensures })
 
 pub returns-clause-keeps : goal.returns-clause-keeps
 returns-clause-keeps c =
