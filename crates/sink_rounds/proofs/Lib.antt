@@ -7,3 +7,5 @@ pub mod BestAlong
 pub mod Walks
 pub mod Settled
 pub mod Best
+pub mod AllPlaced
+pub mod LaidCounts

@@ -1,6 +1,7 @@
 pub mod RoundGraphs
 pub mod Steps
 pub mod RoundsKept
+pub mod Outlines
 pub mod RoundsMade
 pub mod RoundLaws
 pub mod Maximal

@@ -8,6 +8,7 @@
 #![tactic(auto)]
 
 mod answers;
+mod outlines;
 mod repeating;
 
 pub use answers::{Round, Rounds};

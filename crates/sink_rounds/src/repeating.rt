@@ -1,8 +1,8 @@
 // Rounds of sinking and pruning.
 ghost use Rattle.std.specs.Prelude.{IfOk};
 ghost use Rattle.flow_graph.specs.Edges.{IsSplit};
-ghost use Rattle.flow_graph.specs.Layouts.{IsLayout};
 ghost use Rattle.graph_edit.specs.GraphFlows.{IsFlowOf};
+ghost use Rattle.sink_rounds.specs.Outlines.{IsOutlineOf};
 ghost use Rattle.sink_rounds.specs.RoundGraphs.{AreOnlyRounds, AreRounds, IsLastRound, IsOnlyRound, IsRound, KeepsGlobals, SaysChanged, last_round};
 ghost use Rattle.sink_code.specs.RoundKept.{RoundKeeps};
 ghost use Rattle.sink_code.specs.SunkGraphs.{IsSunk};
@@ -11,13 +11,13 @@ ghost use Rattle.sink_rounds.specs.Steps.{AreBestSteps, IsBestStep};
 ghost use Rattle.sink_rounds.specs.RoundsMade.{IsMadeRound, IsPrunedRound};
 
 use crate::answers::{Round, Rounds};
+use crate::outlines::{Outline, compare};
 use dead_code::pruned;
-use flow_graph::{Graph, layout};
+use flow_graph::Graph;
 use graph_edit::GraphFlow;
-use mir_base::{Items, Memory, Unit as MirUnit};
+use mir_base::{Items, Memory};
 use sink_code::sunk;
 use std::alloc::Global;
-use unit_equal::same_unit;
 
 /// The most rounds that `rounds` makes.
 pub const MOST_ROUNDS: usize = 16;
@@ -69,10 +69,10 @@ pub fn rounds(alloc: Global, graph: &Graph) -> Result<Rounds, Memory>
         let MadeRound {
             graph: made,
             flow,
-            unit,
+            outline,
             ..
         } = last;
-        let next = next_round(alloc, &made, flow, &unit)?;
+        let next = next_round(alloc, &made, flow, outline)?;
         rounds.push(made)?;
         last = next;
     }
@@ -95,10 +95,10 @@ pub fn last_of_rounds(alloc: Global, graph: Graph) -> Result<Graph, Memory>
         let MadeRound {
             graph: made,
             flow,
-            unit,
+            outline,
             ..
         } = last;
-        let next = next_round(alloc, &made, flow, &unit)?;
+        let next = next_round(alloc, &made, flow, outline)?;
         last = next;
         before += 1;
     }
@@ -114,12 +114,12 @@ fn first_of(alloc: Global, graph: Graph) -> Result<MadeRound, Memory>
     Ok(made)
 }
 
-/// A round with its edges, its blocks and its layout.
+/// A round with its edges, its blocks and what is known of its layout.
 #[derive(Drop)]
 struct MadeRound {
     graph: Graph,
     flow: GraphFlow,
-    unit: MirUnit,
+    outline: Outline,
     changed: bool,
 }
 
@@ -128,36 +128,34 @@ fn first_round(alloc: Global, graph: &Graph) -> Result<MadeRound, Memory>
     requires { IsSplit graph.now.nodes }
     ensures { IfOk result (IsMadeRound graph.now) }
 {
-    let unit = layout(alloc, graph)?;
     let flow = GraphFlow::of(alloc, graph)?;
-    let made = next_round(alloc, graph, flow, &unit)?;
+    let made = next_round(alloc, graph, flow, Outline::of(graph))?;
     Ok(made)
 }
 
-/// One round on a graph, whose edges and blocks are `flow`, and whose layout is `unit`.
+/// One round on a graph, whose edges and blocks are `flow`, and of whose layout this is known.
 fn next_round(
     alloc: Global,
     graph: &Graph,
     flow: GraphFlow,
-    unit: &MirUnit,
+    known: Outline,
 ) -> Result<MadeRound, Memory>
     requires split { IsSplit graph.now.nodes }
     requires flow { IsFlowOf graph.now.nodes flow }
-    requires unit { IsLayout graph.now unit.now }
+    requires known { IsOutlineOf graph.now known }
     ensures { IfOk result (IsMadeRound graph.now) }
 {
     let _nodes = graph.nodes();
     let _shared = graph.shared();
     let made = sunk_and_pruned(alloc, graph, flow)?;
     let _made = made.graph.nodes();
-    let laid = layout(alloc, &made.graph)?;
-    let changed = !same_unit(unit, &laid);
+    let compared = compare(alloc, graph, known, &made.graph)?;
     let PrunedRound { graph, flow } = made;
     Ok(MadeRound {
         graph,
         flow,
-        unit: laid,
-        changed,
+        outline: compared.outline,
+        changed: compared.changed,
     })
 }
 
