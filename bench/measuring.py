@@ -26,7 +26,7 @@ BYTE_BY_BYTE = ('GLIBC_TUNABLES=glibc.cpu.x86_rep_movsb_threshold=1000000000'
 TABLES = TOP / 'crates' / 'mir_tables' / 'out' / 'mir_tables'
 WRITERS = re.compile(r'(?:table_text|mir_print|itoa)::')
 APPENDERS = re.compile(r'std_alloc::vec::Vec::(?:extend_from_slice|push|resize)\b')
-TABLE_CRATES = re.compile(r'(?:pass_table|mir_table)::')
+TABLE_CRATES = re.compile(r'(?:pass_table|expression_table|mir_table)::')
 
 # The statuses of `mir run`: the run ended, and it still runs after its steps.
 ENDED, RUNNING = 0, 4

@@ -1,12 +1,7 @@
 -- The lines of the expressions of a unit whose divisions move. Cited by contracts.
-use Rattle.std.specs.Prelude.{◌≡◌, ℕ, zero, suc, Bool, if◌then◌else◌, List, [], ◌++◌, codes, decimal, length, slice_get, slice_index_or, Option, Some, None}
-use Rattle.mir_base.specs.declared.instructions.Expr.{Expr}
-use Rattle.mir_base.specs.ExpressionVars.{rhs_of}
-use Rattle.mir_base.specs.Text.{rhs_text}
-use Rattle.mir_print.specs.Sides.{naming_with}
+use Rattle.std.specs.Prelude.{◌≡◌, ℕ, List, ◌++◌, codes, length}
 use Rattle.mir_opt.specs.declared.trails.MoveUnit.{MoveUnit}
-use Rattle.motion_rewrite.specs.Temporaries.{has_insertion, temporary}
-use Rattle.table_text.specs.Lines.{field}
+use Rattle.expression_table.specs.Expressions.{expressions_below}
 use Rattle.table_text.specs.Rows.{HaveBit, bits_line, edge_bits_line}
 use Rattle.division_table.specs.declared.columns.DelayColumns.{DelayColumns}
 use Rattle.division_table.specs.declared.columns.DivisionColumns.{DivisionColumns}
@@ -16,25 +11,7 @@ use Rattle.division_table.specs.declared.rows.DivisionRows.{DivisionRows}
 use Rattle.division_table.specs.Columns.{AreDivisionColumns}
 use Rattle.division_table.specs.Rows.{AreDivisionRows}
 
--- ---- temporaries
-
--- the number of the temporary of expression i of a unit, if it has one
-abbrev pub unit_temporary : MoveUnit → ℕ → ℕ
-unit_temporary unit i = temporary (length unit.split.vars) unit.placement.insert i
-
--- the name of a temporary behind a blank, or `-` where nothing is inserted
-abbrev pub temporary_text : MoveUnit → Bool → ℕ → List ℕ
-temporary_text unit inserted number =
-    if inserted then field (slice_index_or unit.moved.vars number []) else field (codes "-")
-
 -- ---- expressions
-
--- the number of an expression, its temporary and the expression
-abbrev pub expression_head : MoveUnit → ℕ → Expr → List ℕ
-expression_head unit i e =
-    codes "expression" ++ field (decimal i)
-    ++ temporary_text unit (has_insertion unit.placement.insert i) (unit_temporary unit i)
-    ++ codes " " ++ rhs_text (naming_with unit.split.vars) (rhs_of e) ++ codes "\n"
 
 -- where it is used and killed, where it is available and anticipatable, and where each run is sure to come to it
 abbrev pub flow_lines : FlowColumns → ℕ → List ℕ
@@ -65,16 +42,11 @@ abbrev pub column_lines : DivisionColumns → ℕ → List ℕ
 column_lines columns i =
     flow_lines columns.flow i ++ delay_lines columns.delays i ++ placed_lines columns.placed i
 
--- the lines of expression i, where there is one
-abbrev pub expression_lines : MoveUnit → DivisionColumns → ℕ → Option Expr → List ℕ
-expression_lines unit columns i None = []
-expression_lines unit columns i (Some e) = expression_head unit i e ++ column_lines columns i
-
--- the lines of the first expressions, of which there are so many
-abbrev pub expressions_below : MoveUnit → DivisionColumns → ℕ → List ℕ
-expressions_below unit columns zero = []
-expressions_below unit columns (suc n) =
-    expressions_below unit columns n ++ expression_lines unit columns n (slice_get unit.table n)
+-- the lines of all expressions of a unit
+abbrev pub lines_of_expressions : MoveUnit → DivisionColumns → List ℕ
+lines_of_expressions unit columns =
+    expressions_below unit.split.vars unit.moved.vars unit.placement.insert unit.table
+    (column_lines columns) (length unit.table)
 
 -- ---- what is found out
 
@@ -88,7 +60,7 @@ pub record TellDivisions (unit : MoveUnit) (columns : DivisionColumns) : Type 0 
 pub record IsExpressionsText (unit : MoveUnit) (text : List ℕ) : Type 0 where
   pub columns : DivisionColumns
   pub tell : TellDivisions unit columns
-  pub text_is : text ≡ expressions_below unit columns (length unit.table)
+  pub text_is : text ≡ lines_of_expressions unit columns
 
 -- ---- for the functions that write them
 

@@ -1,14 +1,10 @@
 -- The lines of what code motion finds out. Cited by contracts.
-use Rattle.std.specs.Prelude.{◌≡◌, ℕ, zero, suc, Bool, if◌then◌else◌, List, [], ◌++◌, codes, decimal, length, slice_get, slice_index_or, Option, Some, None}
-use Rattle.mir_base.specs.declared.instructions.Expr.{Expr}
-use Rattle.mir_base.specs.ExpressionVars.{rhs_of}
-use Rattle.mir_base.specs.Text.{rhs_text}
-use Rattle.mir_print.specs.Sides.{naming_with}
+use Rattle.std.specs.Prelude.{◌≡◌, ℕ, List, ◌++◌, codes, length}
+use Rattle.expression_table.specs.Expressions.{expressions_below}
 use Rattle.motion_rewrite.specs.declared.placement.Placement.{Placement}
 use Rattle.motion_rewrite.specs.Expressions.{kills}
 use Rattle.motion_rewrite.specs.Placements.{IsAnticipatable}
 use Rattle.motion_rewrite.specs.Rows.{AreRowsOf}
-use Rattle.motion_rewrite.specs.Temporaries.{has_insertion, temporary}
 use Rattle.down_safe.specs.declared.safety.Busy.{Busy}
 use Rattle.down_safe.specs.Busy.{AreBusyRows}
 use Rattle.down_safe.specs.BusyPlaces.{placement_of}
@@ -20,28 +16,9 @@ use Rattle.pass_table.specs.declared.motion.BoundRows.{BoundRows}
 use Rattle.pass_table.specs.declared.motion.BusyRanges.{BusyRanges}
 use Rattle.pass_table.specs.declared.motion.MotionRows.{MotionRows}
 use Rattle.pass_table.specs.declared.motion.PlaceRows.{PlaceRows}
-use Rattle.table_text.specs.Lines.{field}
 use Rattle.table_text.specs.Rows.{HaveBit, bits_line, edge_bits_line}
 
--- ---- temporaries
-
--- the number of the temporary of expression i of a unit, if it has one
-abbrev pub unit_temporary : UnitTrail → ℕ → ℕ
-unit_temporary unit i = temporary (length unit.split.vars) unit.placement.insert i
-
--- the name of a temporary behind a blank, or `-` where nothing is inserted
-abbrev pub temporary_text : UnitTrail → Bool → ℕ → List ℕ
-temporary_text unit inserted number =
-    if inserted then field (slice_index_or unit.moved.vars number []) else field (codes "-")
-
 -- ---- expressions
-
--- the number of an expression, its temporary and the expression
-abbrev pub expression_head : UnitTrail → ℕ → Expr → List ℕ
-expression_head unit i e =
-    codes "expression" ++ field (decimal i)
-    ++ temporary_text unit (has_insertion unit.placement.insert i) (unit_temporary unit i)
-    ++ codes " " ++ rhs_text (naming_with unit.split.vars) (rhs_of e) ++ codes "\n"
 
 -- where it is used and killed, and where it is safe
 abbrev pub safe_lines : MotionRows → ℕ → List ℕ
@@ -80,17 +57,11 @@ motion_lines placement rows i =
     safe_lines rows i ++ late_lines rows.places.late i ++ busy_lines rows.places i
     ++ lazy_lines placement rows i
 
--- the lines of expression i, where there is one
-abbrev pub expression_lines : UnitTrail → MotionRows → ℕ → Option Expr → List ℕ
-expression_lines unit rows i None = []
-expression_lines unit rows i (Some e) =
-    expression_head unit i e ++ motion_lines unit.placement rows i
-
--- the lines of the first expressions, of which there are so many
-abbrev pub expressions_below : UnitTrail → MotionRows → ℕ → List ℕ
-expressions_below unit rows zero = []
-expressions_below unit rows (suc n) =
-    expressions_below unit rows n ++ expression_lines unit rows n (slice_get unit.table n)
+-- the lines of all expressions of a unit
+abbrev pub lines_of_expressions : UnitTrail → MotionRows → List ℕ
+lines_of_expressions unit rows =
+    expressions_below unit.split.vars unit.moved.vars unit.placement.insert unit.table
+    (motion_lines unit.placement rows) (length unit.table)
 
 -- ---- what is found out
 
@@ -116,7 +87,7 @@ pub record AreMotionRows (unit : UnitTrail) (rows : MotionRows) : Type 0 where
 pub record IsMotionText (unit : UnitTrail) (text : List ℕ) : Type 0 where
   pub rows : MotionRows
   pub are : AreMotionRows unit rows
-  pub text_is : text ≡ expressions_below unit rows (length unit.table)
+  pub text_is : text ≡ lines_of_expressions unit rows
 
 -- ---- for the functions that find and write them
 

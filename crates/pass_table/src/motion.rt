@@ -1,31 +1,30 @@
 // What code motion finds out of a split graph. Each function fails only with `Memory`.
-ghost use Rattle.std.specs.Prelude.{◌≡◌, ◌<◌, ◌+◌, if◌then◌else◌, length, slice_get, IfOk, OnOk};
+ghost use Rattle.std.specs.Prelude.{◌≡◌, IfOk, OnOk};
 ghost use Rattle.mir_base.specs.Appending.{AppendsOnOk};
-ghost use Rattle.mir_base.specs.ExpressionVars.{rhs_of};
 ghost use Rattle.flow_graph.specs.Edges.{IsSplit, edges_of};
 ghost use Rattle.motion_rewrite.specs.Placements.{IsAnticipatable};
-ghost use Rattle.motion_rewrite.specs.Temporaries.{IsInsertionRow, has_insertion};
 ghost use Rattle.down_safe.specs.Busy.{AreBusyRows};
 ghost use Rattle.down_safe.specs.BusyPlaces.{placement_of};
 ghost use Rattle.live_range.specs.Held.{AreHeldEdges};
 ghost use Rattle.table_text.specs.Rows.{HaveBit};
 ghost use Rattle.table_text.specs.Turns.{AppendsSome};
 ghost use Rattle.pass_table.specs.MotionLines.{TellMotion, busy_of, late_of, placement_of_lines, rows_of_lines};
-ghost use Rattle.pass_table.specs.Motion.{AreBoundRows, AreBusyRanges, AreMotionRows, ArePlaceRows, HaveBusyBit, HaveLateBit, HaveMotionBit, IsMotionText, busy_lines, expression_head, expression_lines, expressions_below, late_lines, lazy_lines, motion_lines, safe_lines, unit_temporary, temporary_text};
+ghost use Rattle.pass_table.specs.Motion.{AreBoundRows, AreBusyRanges, AreMotionRows, ArePlaceRows, HaveBusyBit, HaveLateBit, HaveMotionBit, IsMotionText, busy_lines, late_lines, lazy_lines, motion_lines, safe_lines};
 ghost use Rattle.pass_table.specs.Units.{IsUnitMotion};
 
 use crate::motion_lines::{MotionLines, motion_lines_of};
-use bit_rows::{Row, Rows};
+use bit_rows::Rows;
 use down_safe::{Busy, EveryPath, busy, busy_admits};
 use edge_split::split_splits;
+use expression_table::{ExpressionRows, MovedExpressions, put_expressions};
 use flow_graph::Edges;
 use latest_place::{Late, late};
 use live_range::{Held, held_edges, ranges};
-use mir_base::{Expr, Memory, Rhs};
+use mir_base::Memory;
 use mir_opt::UnitTrail;
-use motion_rewrite::{Placement, inserted_somewhere, kill_rows};
-use std::alloc::{AllocError, Global};
-use table_text::{put_bits, put_count, put_edge_bits, put_field, put_name, put_right};
+use motion_rewrite::{Placement, kill_rows};
+use std::alloc::Global;
+use table_text::{put_bits, put_edge_bits};
 
 /// What code motion finds out of the expressions of a unit: each has one row for each node, or for each edge, and one
 /// bit for each expression.
@@ -72,9 +71,13 @@ pub(crate) fn put_motion(alloc: Global, text: &mut Vec<u8>, unit: &UnitTrail) ->
     ensures { OnOk result (AppendsSome (IsMotionText unit.now) text.old text.new) }
 {
     let lines = lines_found(alloc, unit)?;
-    let exprs = unit.table.len();
-    let inserted = inserted_somewhere(alloc, exprs, &unit.placement.insert)?;
-    put_expressions(text, unit, &lines, &inserted)?;
+    let moves = MovedExpressions {
+        split: &unit.split,
+        moved: &unit.moved,
+        table: &unit.table,
+        insert: &unit.placement.insert,
+    };
+    put_expressions(alloc, text, &moves, &lines)?;
     Ok(())
 }
 
@@ -185,131 +188,17 @@ fn lazy_held(alloc: Global, unit: &UnitTrail, edges: &Edges) -> Result<Held, Mem
     Ok(held)
 }
 
-/// Appends the lines of all expressions, of which `inserted` says which are inserted somewhere.
-fn put_expressions(
-    text: &mut Vec<u8>,
-    unit: &UnitTrail,
-    lines: &MotionLines,
-    inserted: &Row,
-) -> Result<(), Memory>
-    requires motion { IsUnitMotion unit.now }
-    requires lines { TellMotion unit.now lines.now }
-    requires long { length inserted.now ≡ length unit.now.table }
-    requires inserted { IsInsertionRow unit.now.placement.insert inserted.now }
-    ensures { AppendsOnOk result text.old text.new
-        (expressions_below unit.now (rows_of_lines lines.now) (length unit.now.table)) }
-{
-    let mut temporary = unit.split.vars().len();
-    for number in 0..unit.table.len() {
-        let has_temporary = inserted.get(number);
-        temporary = put_expression(text, unit, lines, number, has_temporary, temporary)?;
+impl ExpressionRows for MotionLines {
+    ghost lines = { λ s. motion_lines (placement_of_lines s) (rows_of_lines s) };
+
+    ghost has = { λ s. HaveMotionBit (placement_of_lines s) (rows_of_lines s) };
+
+    fn put(&self, text: &mut Vec<u8>, number: usize) -> Result<(), Memory> {
+        put_safe(text, self, number)?;
+        put_late(text, self, number)?;
+        put_busy(text, self, number)?;
+        put_lazy(text, self, number)
     }
-    Ok(())
-}
-
-/// Appends the lines of the expression of this number, and answers the number of the temporary of the next one;
-/// `inserted` says whether this one has a temporary, and `temporary` is the number of it then.
-fn put_expression(
-    text: &mut Vec<u8>,
-    unit: &UnitTrail,
-    lines: &MotionLines,
-    number: usize,
-    inserted: bool,
-    temporary: usize,
-) -> Result<usize, Memory>
-    requires motion { IsUnitMotion unit.now }
-    requires lines { TellMotion unit.now lines.now }
-    requires number { number < length unit.now.table }
-    requires inserted { inserted ≡ has_insertion unit.now.placement.insert number }
-    requires temporary { temporary ≡ unit_temporary unit.now number }
-    ensures text { AppendsOnOk result text.old text.new
-        (expression_lines unit.now (rows_of_lines lines.now) number
-        (slice_get unit.now.table number)) }
-    ensures next { IfOk result (λ next. next ≡ unit_temporary unit.now (number + 1)) }
-{
-    let next = next_temporary(temporary, inserted)?;
-    put_head(
-        text,
-        unit,
-        number,
-        unit.table.get(number),
-        inserted,
-        temporary,
-    )?;
-    put_rows(text, lines, number)?;
-    Ok(next)
-}
-
-/// The number of the next temporary.
-fn next_temporary(temporary: usize, inserted: bool) -> Result<usize, Memory>
-    ensures { IfOk result (λ next. next ≡ temporary + (if inserted then 1 else 0)) }
-{
-    if inserted {
-        temporary.checked_add(1).ok_or(AllocError)
-    } else {
-        Ok(temporary)
-    }
-}
-
-/// Appends the number of an expression, its temporary where it has one, and the expression.
-fn put_head(
-    text: &mut Vec<u8>,
-    unit: &UnitTrail,
-    number: usize,
-    expr: &Expr,
-    inserted: bool,
-    temporary: usize,
-) -> Result<(), Memory>
-    requires inserted { inserted ≡ has_insertion unit.now.placement.insert number }
-    requires temporary { temporary ≡ unit_temporary unit.now number }
-    ensures { AppendsOnOk result text.old text.new
-        (expression_head unit.now number expr.now) }
-{
-    text.extend_from_slice(b"expression")?;
-    put_count(text, number)?;
-    put_temporary(text, unit, inserted, temporary)?;
-    text.extend_from_slice(b" ")?;
-    put_right(text, unit.split.vars(), &rhs_of(expr))?;
-    text.extend_from_slice(b"\n")
-}
-
-/// Appends the name of a temporary, or `-` where nothing is inserted.
-fn put_temporary(
-    text: &mut Vec<u8>,
-    unit: &UnitTrail,
-    inserted: bool,
-    temporary: usize,
-) -> Result<(), Memory>
-    ensures { AppendsOnOk result text.old text.new (temporary_text unit.now inserted temporary) }
-{
-    if inserted {
-        text.extend_from_slice(b" ")?;
-        put_name(text, unit.moved.vars(), temporary)
-    } else {
-        put_field(text, b"-")
-    }
-}
-
-/// The right side that is the expression.
-fn rhs_of(expr: &Expr) -> Rhs
-    ensures { result ≡ rhs_of expr.now }
-{
-    match expr {
-        Expr::Un(op, a) => Rhs::Unary(*op, *a),
-        Expr::Bin(op, a, b) => Rhs::Binary(*op, *a, *b),
-    }
-}
-
-/// Appends the rows of an expression.
-fn put_rows(text: &mut Vec<u8>, lines: &MotionLines, number: usize) -> Result<(), Memory>
-    requires { HaveMotionBit (placement_of_lines lines.now) (rows_of_lines lines.now) number }
-    ensures { AppendsOnOk result text.old text.new
-        (motion_lines (placement_of_lines lines.now) (rows_of_lines lines.now) number) }
-{
-    put_safe(text, lines, number)?;
-    put_late(text, lines, number)?;
-    put_busy(text, lines, number)?;
-    put_lazy(text, lines, number)
 }
 
 /// Appends where an expression is used and killed, and where it is safe.
