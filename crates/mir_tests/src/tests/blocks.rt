@@ -9,23 +9,35 @@ use std::test::Fail;
 /// 4,096 prints are one block of 4,098 nodes.
 #[test]
 fn a_line_is_one_block(rt: HostRuntime) -> Result<(), Fail> {
-    let text = prints(rt.alloc())?;
-    let graph = graph_of(rt.alloc(), text.as_str())?;
-    let len = graph.len();
-    let count = blocks_of(rt.alloc(), &graph);
-    mem::drop(graph);
-    assert!(rt; len == 4098 && count? == 1);
+    assert!(rt; nodes_and_blocks(rt.alloc())? == (4098, 1));
     Ok(())
+}
+
+/// How many nodes and how many blocks they have.
+fn nodes_and_blocks(alloc: Global) -> Result<(usize, usize), Fail> {
+    let text = prints(alloc)?;
+    let graph = graph_of(alloc, text.as_str());
+    mem::drop(text);
+    let graph = graph?;
+    let (nodes, blocks) = (graph.len(), blocks_of(alloc, &graph));
+    mem::drop(graph);
+    Ok((nodes, blocks?))
 }
 
 /// The text of a unit of 4,096 prints.
 fn prints(alloc: Global) -> Result<String, AllocError> {
-    let mut text = String::from_str(alloc, "main: begin\n")?;
+    let mut text = String::new(alloc);
+    put_prints(&mut text)?;
+    Ok(text)
+}
+
+/// Appends it.
+fn put_prints(text: &mut String) -> Result<(), AllocError> {
+    text.push_str("main: begin\n")?;
     for _ in 0..4096 {
         text.push_str("print 1\n")?;
     }
-    text.push_str("end")?;
-    Ok(text)
+    text.push_str("end")
 }
 
 /// How many blocks the graph has.
@@ -34,5 +46,7 @@ fn blocks_of(alloc: Global, graph: &Graph) -> Result<usize, Memory> {
     let blocks = Blocks::of(alloc, graph, &edges);
     mem::drop(edges);
     let blocks = blocks?;
-    Ok(blocks.len())
+    let count = blocks.len();
+    mem::drop(blocks);
+    Ok(count)
 }

@@ -9,21 +9,20 @@ use mir_base::{Memory, Name};
 use std::alloc::Global;
 use std::mem;
 
-/// A line for each distinct copy of a graph, with the nodes at which it holds.
-pub(crate) fn copies_text(alloc: Global, graph: &Graph) -> Result<String, Memory> {
+/// Appends a line for each distinct copy of a graph, with the nodes at which it holds.
+pub(crate) fn put_copies(alloc: Global, text: &mut String, graph: &Graph) -> Result<(), Memory> {
     let copies = HeldAssigns::of(alloc, graph, &PickCopies)?;
-    let text = lines_of(alloc, graph.vars(), &copies);
+    let put = put_each(text, graph.vars(), &copies);
     mem::drop(copies);
-    text
+    put
 }
 
-/// The lines of these copies.
-fn lines_of(alloc: Global, vars: &[Name], copies: &HeldAssigns) -> Result<String, Memory> {
-    let mut text = String::new(alloc);
+/// Appends the lines of these copies.
+fn put_each(text: &mut String, vars: &[Name], copies: &HeldAssigns) -> Result<(), Memory> {
     for number in 0..copies.table.len() {
-        put_copy(&mut text, vars, copies, number)?;
+        put_copy(text, vars, copies, number)?;
     }
-    Ok(text)
+    Ok(())
 }
 
 /// Appends the line of the copy of this number.

@@ -15,25 +15,24 @@ use std::mem;
 
 // ---- patterns
 
-/// For each pattern of a graph that can still move, a line with the pattern, and one each with the nodes at which it is
-/// blocked, delayed and inserted.
-pub(crate) fn delays_text(alloc: Global, graph: &Graph) -> Result<String, Memory> {
+/// For each pattern of a graph that can still move, appends a line with the pattern, and one each with the nodes at
+/// which it is blocked, delayed and inserted.
+pub(crate) fn put_delays(alloc: Global, text: &mut String, graph: &Graph) -> Result<(), Memory> {
     let edges = Edges::of(alloc, graph)?;
     let found = DelayedPatterns::of(alloc, graph, &edges);
     mem::drop(edges);
     let found = found?;
-    let text = pattern_lines(alloc, graph.vars(), &found);
+    let put = put_patterns(text, graph.vars(), &found);
     mem::drop(found);
-    text
+    put
 }
 
-/// The lines of these patterns.
-fn pattern_lines(alloc: Global, vars: &[Name], found: &DelayedPatterns) -> Result<String, Memory> {
-    let mut text = String::new(alloc);
+/// Appends the lines of these patterns.
+fn put_patterns(text: &mut String, vars: &[Name], found: &DelayedPatterns) -> Result<(), Memory> {
     for number in 0..found.table.len() {
-        put_pattern(&mut text, vars, found, number)?;
+        put_pattern(text, vars, found, number)?;
     }
-    Ok(text)
+    Ok(())
 }
 
 /// Appends the lines of the pattern of this number.
@@ -57,44 +56,43 @@ fn put_pattern(
 
 // ---- variables
 
-/// For each variable of a graph, a line with the nodes before which it is live, and one with those after which it is,
-/// that is before some successor.
-pub(crate) fn live_text(alloc: Global, graph: &Graph) -> Result<String, Memory> {
+/// For each variable of a graph, appends a line with the nodes before which it is live, and one with those after which
+/// it is, that is before some successor.
+pub(crate) fn put_live(alloc: Global, text: &mut String, graph: &Graph) -> Result<(), Memory> {
     let flow = GraphFlow::of(alloc, graph)?;
     let live = live_rows(alloc, graph, &flow);
     mem::drop(flow);
     let live = live?;
-    let text = text_with(alloc, graph, &live);
+    let put = put_with(alloc, text, graph, &live);
     mem::drop(live);
-    text
+    put
 }
 
-/// The text of these lines, where `live` says which variables are live before each node.
-fn text_with(alloc: Global, graph: &Graph, live: &Rows) -> Result<String, Memory>
+/// Appends these lines, where `live` says which variables are live before each node.
+fn put_with(alloc: Global, text: &mut String, graph: &Graph, live: &Rows) -> Result<(), Memory>
     requires { HaveShape graph.now (length graph.now.vars) live.now }
 {
     let edges = Edges::of(alloc, graph)?;
     let after = some_successor(alloc, graph, &edges, live);
     mem::drop(edges);
     let after = after?;
-    let text = variable_lines(alloc, graph.vars(), live, &after);
+    let put = put_variables(text, graph.vars(), live, &after);
     mem::drop(after);
-    text
+    put
 }
 
-/// The lines of these variables.
-fn variable_lines(
-    alloc: Global,
+/// Appends the lines of these variables.
+fn put_variables(
+    text: &mut String,
     vars: &[Name],
     live: &Rows,
     after: &Rows,
-) -> Result<String, Memory> {
-    let mut text = String::new(alloc);
+) -> Result<(), Memory> {
     for x in 0..vars.len() {
-        put_var(&mut text, vars, x)?;
-        put_bit(&mut text, " before", live, x)?;
-        put_var(&mut text, vars, x)?;
-        put_bit(&mut text, " after", after, x)?;
+        put_var(text, vars, x)?;
+        put_bit(text, " before", live, x)?;
+        put_var(text, vars, x)?;
+        put_bit(text, " after", after, x)?;
     }
-    Ok(text)
+    Ok(())
 }

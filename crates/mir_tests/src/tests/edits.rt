@@ -11,7 +11,6 @@ use std::test::Fail;
 /// A graph with a new variable `h1`, which gets the sum of the first two before node 5. There have to be these, and no
 /// variable of this name.
 pub(crate) fn put_of(alloc: Global, graph: &Graph) -> Result<Graph, Fail> {
-    let name = Name::numbered(alloc, b"h", 1)?;
     // The proof needs what holds of every graph: that the names of its variables are distinct.
     let _nodes = graph.nodes();
     let vars = graph.vars();
@@ -21,6 +20,7 @@ pub(crate) fn put_of(alloc: Global, graph: &Graph) -> Result<Graph, Fail> {
     if vars.len() < 2 {
         return Err("no two variables".into());
     }
+    let name = Name::numbered(alloc, b"h", 1)?;
     if !is_new(vars, &name) {
         return Err("not a new name".into());
     }

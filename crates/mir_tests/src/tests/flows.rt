@@ -5,7 +5,7 @@ ghost use Rattle.mir_tests.specs.Levels.{levels, levels_laws};
 ghost use Rattle.mir_tests.specs.Squares.{EachImplies, size_of_three, squares, squares_laws, three_laws, trues_of};
 ghost use Rattle.fix_solve.specs.NewsFlows.{untold_laws};
 
-use fix_solve::{AllNews, Flow, Lattice, Memory, Steps, Work, solve};
+use fix_solve::{AllNews, Flow, Lattice, Memory, NoRoom, Steps, Work, solve};
 use std::alloc::Global;
 use std::cell::Cell;
 use std::marker::{Brand, Model, PhantomData};
@@ -28,6 +28,8 @@ impl Model for Level {
 
 impl Lattice for Level {
     type News = AllNews;
+
+    type Room = NoRoom;
 
     ghost below = { Under };
 
@@ -111,19 +113,30 @@ impl<L: Ledger> Flow for Levels<L> {
         Ok(AllNews)
     }
 
+    fn room(&self, _alloc: Global) -> Result<NoRoom, Memory> {
+        Ok(NoRoom)
+    }
+
     fn push(
         &self,
         _number: usize,
         _target: usize,
         from: &Level,
         into: &mut Level,
+        _room: &mut NoRoom,
         steps: &mut Steps<L>,
     ) -> bool {
         count(&self.pushes, steps);
         into.join_from(from)
     }
 
-    fn push_self(&self, _number: usize, _value: &mut Level, steps: &mut Steps<L>) -> bool {
+    fn push_self(
+        &self,
+        _number: usize,
+        _value: &mut Level,
+        _room: &mut NoRoom,
+        steps: &mut Steps<L>,
+    ) -> bool {
         count(&self.pushes, steps);
         false
     }
@@ -151,6 +164,8 @@ impl Model for Marks {
 
 impl Lattice for Marks {
     type News = AllNews;
+
+    type Room = NoRoom;
 
     ghost below = { EachImplies };
 
@@ -226,12 +241,17 @@ impl<L: Ledger> Flow for Squares<L> {
         Ok(AllNews)
     }
 
+    fn room(&self, _alloc: Global) -> Result<NoRoom, Memory> {
+        Ok(NoRoom)
+    }
+
     fn push(
         &self,
         number: usize,
         _target: usize,
         from: &Marks,
         into: &mut Marks,
+        _room: &mut NoRoom,
         steps: &mut Steps<L>,
     ) -> bool {
         let from = along(number, from);
@@ -239,7 +259,13 @@ impl<L: Ledger> Flow for Squares<L> {
         into.join_from(&from)
     }
 
-    fn push_self(&self, number: usize, value: &mut Marks, steps: &mut Steps<L>) -> bool {
+    fn push_self(
+        &self,
+        number: usize,
+        value: &mut Marks,
+        _room: &mut NoRoom,
+        steps: &mut Steps<L>,
+    ) -> bool {
         let from = along(number, value);
         count(&self.pushes, steps);
         value.join_from(&from)

@@ -9,24 +9,28 @@ use mir_base::{Memory, Name};
 use std::alloc::Global;
 use std::mem;
 
-/// A line for each node of a graph, with what is known of each variable before it, its value or a `?`; or that no run
-/// comes to the node.
-pub(crate) fn known_text(alloc: Global, graph: &Graph) -> Result<String, Memory> {
+/// Appends a line for each node of a graph, with what is known of each variable before it, its value or a `?`; or that
+/// no run comes to the node.
+pub(crate) fn put_all_known(alloc: Global, text: &mut String, graph: &Graph) -> Result<(), Memory> {
     let states = LeastStates::of(alloc, graph)?;
-    let text = lines_of(alloc, graph, &states);
+    let put = put_states(alloc, text, graph, &states);
     mem::drop(states);
-    text
+    put
 }
 
-/// The lines of the nodes of a graph, by its states.
-fn lines_of(alloc: Global, graph: &Graph, states: &LeastStates) -> Result<String, Memory>
+/// Appends the lines of the nodes of a graph, by its states.
+fn put_states(
+    alloc: Global,
+    text: &mut String,
+    graph: &Graph,
+    states: &LeastStates,
+) -> Result<(), Memory>
     requires { AreStatesOf graph.now states.now }
 {
-    let mut text = String::new(alloc);
     for node in 0..graph.len() {
-        put_node(alloc, &mut text, graph, states, node)?;
+        put_node(alloc, text, graph, states, node)?;
     }
-    Ok(text)
+    Ok(())
 }
 
 /// Appends the line of a node.

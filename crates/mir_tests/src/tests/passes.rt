@@ -3,20 +3,20 @@
 // `row_examples.rt`.
 use crate::tests::bound_examples::BOUND_EXAMPLES;
 use crate::tests::compare_examples::COMPARE_EXAMPLES;
-use crate::tests::copied::copies_text;
-use crate::tests::delayed::{delays_text, live_text};
+use crate::tests::copied::put_copies;
+use crate::tests::delayed::{put_delays, put_live};
 use crate::tests::edits::put_of;
 use crate::tests::examples::EXAMPLES;
 use crate::tests::extend_examples::EXTEND_EXAMPLES;
-use crate::tests::known::known_text;
-use crate::tests::paths::held_text;
-use crate::tests::placing::motion_text;
-use crate::tests::ranges::ranges_text;
+use crate::tests::known::put_all_known;
+use crate::tests::paths::put_held;
+use crate::tests::placing::put_motion;
+use crate::tests::ranges::put_ranges;
 use crate::tests::row_examples::ROW_EXAMPLES;
-use crate::tests::shown::{graph_text, put_changes};
+use crate::tests::shown::{put_changes, put_graph, show_same, text_and_shown};
 use crate::tests::support::graph_of;
 use crate::tests::term_examples::TERM_EXAMPLES;
-use crate::tests::terms::terms_text;
+use crate::tests::terms::put_all_terms;
 use crate::tests::unread_examples::UNREAD_EXAMPLES;
 use crate::tests::value_examples::VALUE_EXAMPLES;
 use compare_flow::comparisons;
@@ -41,52 +41,62 @@ use wanted_bits::narrow;
 /// Each example.
 #[test]
 fn examples_of_passes(rt: HostRuntime) -> Result<(), Fail> {
-    for examples in [
-        EXAMPLES,
-        VALUE_EXAMPLES,
-        BOUND_EXAMPLES,
-        COMPARE_EXAMPLES,
-        TERM_EXAMPLES,
-        EXTEND_EXAMPLES,
-        UNREAD_EXAMPLES,
-        ROW_EXAMPLES,
-    ] {
+    for examples in WORKED.iter() {
         for example in examples.split("# ").skip(1) {
-            let other = other_than(rt.alloc(), example)?;
-            assert!(rt; other.is_empty(), "{example}makes otherwise:\n{other}");
+            show_example(rt.alloc(), example)?;
         }
     }
     Ok(())
 }
 
-/// The first passes that make something else than an example says, with what they make; no text where all is as it
-/// says.
-fn other_than(alloc: Global, example: &str) -> Result<String, Fail> {
-    let (_, example) = example.split_once('\n').ok_or("no remark")?;
-    let (text, shown) = example.split_once("$ ").ok_or("nothing shown")?;
+/// The texts of all examples.
+const WORKED: [&str; 8] = [
+    EXAMPLES,
+    VALUE_EXAMPLES,
+    BOUND_EXAMPLES,
+    COMPARE_EXAMPLES,
+    TERM_EXAMPLES,
+    EXTEND_EXAMPLES,
+    UNREAD_EXAMPLES,
+    ROW_EXAMPLES,
+];
+
+/// Fails where passes make something else than an example says, with what they make.
+fn show_example(alloc: Global, example: &str) -> Result<(), Fail> {
+    let (text, shown) = text_and_shown(example).ok_or("nothing shown")?;
     for part in shown.split("$ ") {
         let (passes, wanted) = part.split_once('\n').ok_or("no lines")?;
-        let made = made_of(alloc, text, passes)?;
-        if made.as_str() != wanted {
-            return Ok(format!(in alloc; "{passes}\n{made}")?);
-        }
+        show_part(alloc, text, passes, wanted)?;
     }
-    Ok(String::new(alloc))
+    Ok(())
 }
 
-/// What is shown of the graph that the passes make, in turn, of the graph of a text.
-fn made_of(alloc: Global, text: &str, passes: &str) -> Result<String, Fail> {
-    let (passes, shown) = match passes.split_once(": ") {
-        Some(both) => both,
-        None => (passes, "graph"),
-    };
+/// Fails where something else is shown of the graph that these passes make, in turn, of the graph of a text.
+fn show_part(alloc: Global, text: &str, passes: &str, wanted: &str) -> Result<(), Fail> {
+    let (names, shown) = passes.split_once(": ").unwrap_or((passes, "graph"));
+    let graph = passed(alloc, text, names)?;
+    let made = made_of(alloc, text, shown, &graph);
+    mem::drop(graph);
+    let made = made?;
+    let shown = show_same(text, passes, made.as_str(), wanted);
+    mem::drop(made);
+    shown
+}
+
+/// What the passes make, in turn, of the graph of a text.
+fn passed(alloc: Global, text: &str, passes: &str) -> Result<Graph, Fail> {
     let mut graph = graph_of(alloc, text)?;
     for pass in passes.split(' ').skip(1) {
         graph = next_of(alloc, pass, graph)?;
     }
-    let made = shown_of(alloc, text, shown, &graph);
-    mem::drop(graph);
-    made
+    Ok(graph)
+}
+
+/// What is shown of a graph that was made of a text.
+fn made_of(alloc: Global, text: &str, shown: &str, graph: &Graph) -> Result<String, Fail> {
+    let mut made = String::new(alloc);
+    put_shown(alloc, &mut made, text, shown, graph)?;
+    Ok(made)
 }
 
 /// What the pass of this name makes of a graph, which is dropped.
@@ -139,62 +149,82 @@ fn divided_of(alloc: Global, graph: &Graph) -> Result<Graph, Fail> {
     Ok(move_dividing(alloc, graph)?.moved)
 }
 
-/// What is shown of the graph that was made of a text: its nodes, or those that the passes changed; its blocks; what is
-/// known before its nodes; where its copies hold; where its patterns are delayed and inserted; where its variables are
-/// live; which terms they have; on how many edges its temporaries are held; what code motion finds out of its first
-/// expression, or of its second; or where a bit holds.
-fn shown_of(alloc: Global, text: &str, shown: &str, graph: &Graph) -> Result<String, Fail> {
-    match shown {
-        "graph" => Ok(graph_text(alloc, graph)?),
-        "changes" => changes_text(alloc, text, graph),
-        "blocks" => Ok(blocks_text(alloc, graph)?),
-        "known" => Ok(known_text(alloc, graph)?),
-        "copies" => Ok(copies_text(alloc, graph)?),
-        "delays" => Ok(delays_text(alloc, graph)?),
-        "live" => Ok(live_text(alloc, graph)?),
-        "terms" => Ok(terms_text(alloc, graph)?),
-        "ranges" => ranges_text(alloc, graph),
-        "motion" => motion_text(alloc, graph, 0),
-        "motion of the second" => motion_text(alloc, graph, 1),
-        _ => held_text(alloc, shown, graph),
-    }
+/// Appends what is shown of the graph that was made of a text: its nodes, or those that the passes changed; its blocks;
+/// what is known before its nodes; where its copies hold; where its patterns are delayed and inserted; where its
+/// variables are live; which terms they have; on how many edges its temporaries are held; what code motion finds out of
+/// its first expression, or of its second; or where a bit holds.
+fn put_shown(
+    alloc: Global,
+    made: &mut String,
+    text: &str,
+    shown: &str,
+    graph: &Graph,
+) -> Result<(), Fail> {
+    let put = match shown {
+        "graph" => put_graph(made, graph),
+        "blocks" => put_blocks(alloc, made, graph),
+        "known" => put_all_known(alloc, made, graph),
+        "copies" => put_copies(alloc, made, graph),
+        "delays" => put_delays(alloc, made, graph),
+        "live" => put_live(alloc, made, graph),
+        "terms" => put_all_terms(alloc, made, graph),
+        "changes" => return put_changes_of(alloc, made, text, graph),
+        "ranges" => return put_ranges(alloc, made, graph),
+        "motion" => return put_motion(alloc, made, graph, 0),
+        "motion of the second" => return put_motion(alloc, made, graph, 1),
+        _ => return put_held(alloc, made, shown, graph),
+    };
+    Ok(put?)
 }
 
-/// The nodes of a graph that the graph of a text does not have, and how many it has.
-fn changes_text(alloc: Global, text: &str, graph: &Graph) -> Result<String, Fail> {
-    let before = lowered_text(alloc, text)?;
+/// Appends the nodes of a graph that the graph of a text does not have, and how many it has.
+fn put_changes_of(alloc: Global, made: &mut String, text: &str, graph: &Graph) -> Result<(), Fail> {
+    let lowered = graph_of(alloc, text)?;
+    let before = graph_text(alloc, &lowered);
+    mem::drop(lowered);
+    let before = before?;
+    let put = put_changes_from(alloc, made, before.as_str(), graph);
+    mem::drop(before);
+    Ok(put?)
+}
+
+/// Appends the nodes of a graph that this text does not have, and how many it has.
+fn put_changes_from(
+    alloc: Global,
+    made: &mut String,
+    before: &str,
+    graph: &Graph,
+) -> Result<(), Memory> {
     let after = graph_text(alloc, graph)?;
-    let mut changes = String::new(alloc);
-    put_changes(&mut changes, before.as_str(), after.as_str())?;
-    Ok(changes)
+    let put = put_changes(made, before, after.as_str());
+    mem::drop(after);
+    put
 }
 
-/// The nodes of the graph of a text.
-fn lowered_text(alloc: Global, text: &str) -> Result<String, Fail> {
-    let graph = graph_of(alloc, text)?;
-    let text = graph_text(alloc, &graph);
-    mem::drop(graph);
-    Ok(text?)
+/// The nodes of a graph.
+fn graph_text(alloc: Global, graph: &Graph) -> Result<String, Memory> {
+    let mut text = String::new(alloc);
+    put_graph(&mut text, graph)?;
+    Ok(text)
 }
 
-/// A line for each block, with its nodes.
-fn blocks_text(alloc: Global, graph: &Graph) -> Result<String, Memory> {
+/// Appends a line for each block, with its nodes.
+fn put_blocks(alloc: Global, made: &mut String, graph: &Graph) -> Result<(), Memory> {
     let edges = Edges::of(alloc, graph)?;
     let blocks = Blocks::of(alloc, graph, &edges);
     mem::drop(edges);
     let blocks = blocks?;
-    let text = lines_of(alloc, &blocks);
+    let put = put_each(made, &blocks);
     mem::drop(blocks);
-    text
+    put
 }
 
-/// The lines of these blocks.
-fn lines_of(alloc: Global, blocks: &Blocks) -> Result<String, Memory> {
-    let mut text = String::new(alloc);
+/// Appends the lines of these blocks.
+fn put_each(made: &mut String, blocks: &Blocks) -> Result<(), Memory> {
     for block in 0..blocks.len() {
-        put_block(&mut text, blocks.nodes(block))?;
+        put_block(made, blocks.nodes(block))?;
     }
-    Ok(text)
+    Ok(())
 }
 
 /// Appends the line of a block.

@@ -16,54 +16,130 @@ use std::alloc::Global;
 use std::mem;
 use std::test::Fail;
 
-/// Where a bit holds by a statement about paths. The words are the statement's name and, after `born` and `stop`, the
-/// nodes at which the bit is born and stopped. It holds `before` a node on every path to it, `after` it on every path
-/// from it, `ahead` on some path from it, and `beyond` it on some path from a successor.
-pub(crate) fn held_text(alloc: Global, words: &str, graph: &Graph) -> Result<String, Fail> {
-    let (statement, born_and_stopped) = words.split_once(" born").ok_or("no births")?;
-    let born_and_stopped = born_and_stopped.split_once(" stop").ok_or("no stops")?;
+/// Appends where a bit holds by a statement about paths. The words are the statement's name and, after `born` and
+/// `stop`, the nodes at which the bit is born and stopped. It holds `before` a node on every path to it, `after` it on
+/// every path from it, `ahead` on some path from it, and `beyond` it on some path from a successor.
+pub(crate) fn put_held(
+    alloc: Global,
+    text: &mut String,
+    words: &str,
+    graph: &Graph,
+) -> Result<(), Fail> {
+    let (name, born_and_stopped) = words.split_once(" born").ok_or("no births")?;
+    let (born, stop) = born_and_stopped.split_once(" stop").ok_or("no stops")?;
     let edges = Edges::of(alloc, graph)?;
-    let text = text_along(alloc, statement, graph, &edges, born_and_stopped);
+    let put = put_along(alloc, text, name, graph, &edges, born, stop);
     mem::drop(edges);
-    Ok(text?)
+    Ok(put?)
 }
 
-/// The same, along the edges of the graph; and, where the call that makes its own blocks says otherwise, what it says.
-fn text_along(
+/// The same, along the edges of the graph.
+fn put_along(
     alloc: Global,
-    statement: &str,
+    text: &mut String,
+    name: &str,
     graph: &Graph,
     edges: &Edges,
-    born_and_stopped: (&str, &str),
-) -> Result<String, Memory>
+    born: &str,
+    stop: &str,
+) -> Result<(), Memory>
     requires { edges.now ≡ edges_of graph.now.nodes }
 {
-    let (born, stop) = born_and_stopped;
-    let rows = BitRows {
-        born: rows_at(alloc, graph, born)?,
-        stop: rows_at(alloc, graph, stop)?,
-    };
-    let blocks = Blocks::of(alloc, graph, edges)?;
-    let held = rows.held(alloc, statement_of(statement), graph, edges, &blocks)?;
-    let text = text_of(alloc, statement, &held)?;
-    match statement_of(statement) {
-        Statement::Before => {
-            let plain = forward_all(alloc, graph, edges, &rows.born, &rows.stop)?;
-            let plain = text_of(alloc, statement, &plain)?;
-            with_other(text, plain.as_str())
-        }
-        Statement::After | Statement::Ahead | Statement::Beyond => Ok(text),
-    }
+    let born = rows_at(alloc, graph, born)?;
+    let put = put_from(alloc, text, name, graph, edges, &born, stop);
+    mem::drop(born);
+    put
 }
 
-/// The text, with another behind it where that is not the same.
-fn with_other(text: String, other: &str) -> Result<String, Memory> {
-    let mut text = text;
-    if text.as_str() != other {
-        text.push_str("by itself ")?;
-        text.push_str(other)?;
+/// The same, from where the bit is born.
+fn put_from(
+    alloc: Global,
+    text: &mut String,
+    name: &str,
+    graph: &Graph,
+    edges: &Edges,
+    born: &Rows,
+    stop: &str,
+) -> Result<(), Memory>
+    requires edges { edges.now ≡ edges_of graph.now.nodes }
+    requires born { HaveShape graph.now 1 born.now }
+{
+    let stop = rows_at(alloc, graph, stop)?;
+    let put = put_between(alloc, text, name, graph, edges, born, &stop);
+    mem::drop(stop);
+    put
+}
+
+/// The same, to where it is stopped.
+fn put_between(
+    alloc: Global,
+    text: &mut String,
+    name: &str,
+    graph: &Graph,
+    edges: &Edges,
+    born: &Rows,
+    stop: &Rows,
+) -> Result<(), Memory>
+    requires edges { edges.now ≡ edges_of graph.now.nodes }
+    requires born { HaveShape graph.now 1 born.now }
+    requires stop { HaveShape graph.now 1 stop.now }
+{
+    let blocks = Blocks::of(alloc, graph, edges)?;
+    let held = held(alloc, statement_of(name), graph, edges, &blocks, born, stop);
+    mem::drop(blocks);
+    let held = held?;
+    let put = put_bit(text, name, &held, 0);
+    let put = match statement_of(name) {
+        Statement::Before => {
+            let plain = forward_all(alloc, graph, edges, born, stop);
+            put_both(text, put, &held, plain)
+        }
+        Statement::After | Statement::Ahead | Statement::Beyond => put,
+    };
+    mem::drop(held);
+    put
+}
+
+/// Appends, where the call that makes its own blocks says otherwise, what it says.
+fn put_both(
+    text: &mut String,
+    put: Result<(), Memory>,
+    held: &Rows,
+    plain: Result<Rows, Memory>,
+) -> Result<(), Memory> {
+    let plain = plain?;
+    let both = put_other(text, put, held, &plain);
+    mem::drop(plain);
+    both
+}
+
+/// The same, where both are found.
+fn put_other(
+    text: &mut String,
+    put: Result<(), Memory>,
+    held: &Rows,
+    plain: &Rows,
+) -> Result<(), Memory> {
+    put?;
+    if are_same(held, plain) {
+        return Ok(());
     }
-    Ok(text)
+    put_bit(text, "by itself before", plain, 0)
+}
+
+/// Whether bit 0 of both holds at the same nodes.
+fn are_same(held: &Rows, plain: &Rows) -> bool {
+    for node in 0..held.len().max(plain.len()) {
+        if holds(held, node) != holds(plain, node) {
+            return false;
+        }
+    }
+    true
+}
+
+/// Whether bit 0 holds at a node.
+fn holds(rows: &Rows, node: usize) -> bool {
+    node < rows.len() && 0 < rows.bits() && rows.get(node, 0)
 }
 
 /// A statement about paths.
@@ -85,44 +161,30 @@ fn statement_of(name: &str) -> Statement {
     }
 }
 
-/// Where bit 0 of the rows holds, behind the name of the statement.
-fn text_of(alloc: Global, name: &str, held: &Rows) -> Result<String, Memory> {
-    let mut text = String::new(alloc);
-    put_bit(&mut text, name, held, 0)?;
-    Ok(text)
-}
-
-/// Where a bit is born, and where it is stopped.
-#[derive(Drop)]
-struct BitRows {
-    born: Rows,
-    stop: Rows,
-}
-
-impl BitRows {
-    /// The rows of where the bit holds by the statement.
-    fn held(
-        &self,
-        alloc: Global,
-        statement: Statement,
-        graph: &Graph,
-        edges: &Edges,
-        blocks: &Blocks,
-    ) -> Result<Rows, Memory>
-        requires edges { edges.now ≡ edges_of graph.now.nodes }
-        requires blocks { AreBlocksOf graph.now.nodes blocks.now }
-        requires born { HaveShape graph.now 1 self.now.born }
-        requires stop { HaveShape graph.now 1 self.now.stop }
-    {
-        let BitRows { born, stop } = self;
-        match statement {
-            Statement::Before => forward_all_over(alloc, graph, edges, blocks, born, stop),
-            Statement::After => backward_all_over(alloc, graph, edges, blocks, born, stop),
-            Statement::Ahead => backward_some_over(alloc, graph, edges, blocks, born, stop),
-            Statement::Beyond => {
-                let ahead = backward_some_over(alloc, graph, edges, blocks, born, stop)?;
-                some_successor(alloc, graph, edges, &ahead)
-            }
+/// The rows of where a bit holds by the statement, that is born and stopped at these nodes.
+fn held(
+    alloc: Global,
+    statement: Statement,
+    graph: &Graph,
+    edges: &Edges,
+    blocks: &Blocks,
+    born: &Rows,
+    stop: &Rows,
+) -> Result<Rows, Memory>
+    requires edges { edges.now ≡ edges_of graph.now.nodes }
+    requires blocks { AreBlocksOf graph.now.nodes blocks.now }
+    requires born { HaveShape graph.now 1 born.now }
+    requires stop { HaveShape graph.now 1 stop.now }
+{
+    match statement {
+        Statement::Before => forward_all_over(alloc, graph, edges, blocks, born, stop),
+        Statement::After => backward_all_over(alloc, graph, edges, blocks, born, stop),
+        Statement::Ahead => backward_some_over(alloc, graph, edges, blocks, born, stop),
+        Statement::Beyond => {
+            let ahead = backward_some_over(alloc, graph, edges, blocks, born, stop)?;
+            let beyond = some_successor(alloc, graph, edges, &ahead);
+            mem::drop(ahead);
+            beyond
         }
     }
 }

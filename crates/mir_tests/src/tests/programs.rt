@@ -1,7 +1,7 @@
 // What becomes of programs and of their runs: the examples of `program_examples.rt` and `leaf_examples.rt`.
 use crate::tests::leaf_examples::LEAF_EXAMPLES;
 use crate::tests::program_examples::PROGRAM_EXAMPLES;
-use crate::tests::shown::program_text;
+use crate::tests::shown::{put_program, show_same, text_and_shown};
 use crate::tests::support::program_of;
 use crate::tests::turn_examples::TURN_EXAMPLES;
 use mir_base::{Memory, Program};
@@ -15,44 +15,59 @@ use std::test::Fail;
 /// Each example.
 #[test]
 fn examples_of_programs(rt: HostRuntime) -> Result<(), Fail> {
-    for examples in [PROGRAM_EXAMPLES, LEAF_EXAMPLES, TURN_EXAMPLES] {
+    for examples in WORKED.iter() {
         for example in examples.split("# ").skip(1) {
-            let other = other_than(rt.alloc(), example)?;
-            assert!(rt; other.is_empty(), "{example}makes otherwise:\n{other}");
+            show_example(rt.alloc(), example)?;
         }
     }
     Ok(())
 }
 
-/// The first passes that make something else than an example says, with what they make; no text where all is as it
-/// says.
-fn other_than(alloc: Global, example: &str) -> Result<String, Fail> {
-    let (_, example) = example.split_once('\n').ok_or("no remark")?;
-    let (text, shown) = example.split_once("$ ").ok_or("nothing shown")?;
+/// The texts of all examples.
+const WORKED: [&str; 3] = [PROGRAM_EXAMPLES, LEAF_EXAMPLES, TURN_EXAMPLES];
+
+/// Fails where passes make something else than an example says, with what they make.
+fn show_example(alloc: Global, example: &str) -> Result<(), Fail> {
+    let (text, shown) = text_and_shown(example).ok_or("nothing shown")?;
     for part in shown.split("$ ") {
         let (passes, wanted) = part.split_once('\n').ok_or("no lines")?;
         let wanted = if wanted == "same\n" { text } else { wanted };
-        let made = made_of(alloc, text, passes)?;
-        if made.as_str() != wanted {
-            return Ok(format!(in alloc; "{passes}\n{made}")?);
-        }
+        show_part(alloc, text, passes, wanted)?;
     }
-    Ok(String::new(alloc))
+    Ok(())
+}
+
+/// Fails where these passes make something else of a text.
+fn show_part(alloc: Global, text: &str, passes: &str, wanted: &str) -> Result<(), Fail> {
+    let made = made_of(alloc, text, passes)?;
+    let shown = show_same(text, passes, made.as_str(), wanted);
+    mem::drop(made);
+    shown
 }
 
 /// What the passes make of the program of a text, in turn, or of its run.
 fn made_of(alloc: Global, text: &str, passes: &str) -> Result<String, Fail> {
-    let (passes, numbers) = match passes.split_once("run ") {
-        Some(both) => both,
-        None => (passes, ""),
-    };
+    let mut made = String::new(alloc);
+    put_made(alloc, &mut made, text, passes)?;
+    Ok(made)
+}
+
+/// Appends it.
+fn put_made(alloc: Global, made: &mut String, text: &str, passes: &str) -> Result<(), Fail> {
+    let (passes, numbers) = passes.split_once("run ").unwrap_or((passes, ""));
+    let program = passed(alloc, text, passes)?;
+    let put = put_shown(alloc, made, numbers, &program);
+    mem::drop(program);
+    Ok(put?)
+}
+
+/// What the passes make of the program of a text, in turn.
+fn passed(alloc: Global, text: &str, passes: &str) -> Result<Program, Fail> {
     let mut program = program_of(alloc, text)?;
     for pass in passes.split_whitespace() {
         program = next_of(alloc, pass, program)?;
     }
-    let made = shown_of(alloc, numbers, &program);
-    mem::drop(program);
-    Ok(made?)
+    Ok(program)
 }
 
 /// What the pass of this name makes of a program, which is dropped.
@@ -98,34 +113,53 @@ fn pass_named(name: &str) -> Option<Pass> {
     }
 }
 
-/// The text of a program, or where there are numbers its run with so many steps and these inputs.
-fn shown_of(alloc: Global, numbers: &str, program: &Program) -> Result<String, Memory> {
+/// Appends the text of a program, or where there are numbers its run with so many steps and these inputs.
+fn put_shown(
+    alloc: Global,
+    made: &mut String,
+    numbers: &str,
+    program: &Program,
+) -> Result<(), Memory> {
     if numbers.is_empty() {
-        return program_text(alloc, program);
+        return put_program(alloc, made, program);
     }
-    let mut steps = 0;
-    let mut inputs = Vec::new(alloc);
-    for (place, number) in numbers.split_whitespace().enumerate() {
-        if place == 0 {
-            steps = number.parse::<u64>().unwrap_or(0);
-        } else {
-            inputs.push(number.parse::<i64>().unwrap_or(0))?;
-        }
-    }
-    run_text(alloc, run(alloc, program, inputs.as_slice(), steps))
+    let (steps, inputs) = numbers.split_once(' ').unwrap_or((numbers, ""));
+    let steps = steps.parse::<u64>().unwrap_or(0);
+    let inputs = inputs_of(alloc, inputs)?;
+    let put = put_run(made, run(alloc, program, inputs.as_slice(), steps));
+    mem::drop(inputs);
+    put
 }
 
-/// How a run stands, how many evaluations it counted, and what it printed; or why there is no report.
-fn run_text(alloc: Global, answer: Result<Report, RunFault>) -> Result<String, Memory> {
+/// The inputs of these words.
+fn inputs_of(alloc: Global, words: &str) -> Result<Vec<i64>, Memory> {
+    let mut inputs = Vec::new(alloc);
+    push_inputs(&mut inputs, words)?;
+    Ok(inputs)
+}
+
+/// Appends them.
+fn push_inputs(inputs: &mut Vec<i64>, words: &str) -> Result<(), Memory> {
+    for word in words.split_whitespace() {
+        inputs.push(word.parse::<i64>().unwrap_or(0))?;
+    }
+    Ok(())
+}
+
+/// Appends how a run stands, how many evaluations it counted, and what it printed; or why there is no report.
+fn put_run(made: &mut String, answer: Result<Report, RunFault>) -> Result<(), Memory> {
     match answer {
         Ok(report) => {
-            let finish = report.finish;
-            let evals = report.evals;
-            let lines = report.lines.items();
-            let text = format!(in alloc; "{finish:?} {evals} {lines:?}\n");
+            let put = put_report(made, &report);
             mem::drop(report);
-            text
+            put
         }
-        Err(fault) => format!(in alloc; "{fault}\n"),
+        Err(fault) => write!(made, "{fault}\n"),
     }
+}
+
+/// Appends the line of a report.
+fn put_report(made: &mut String, report: &Report) -> Result<(), Memory> {
+    let lines = report.lines.items();
+    write!(made, "{:?} {} {lines:?}\n", report.finish, report.evals)
 }

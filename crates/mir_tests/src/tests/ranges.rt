@@ -15,62 +15,82 @@ use std::alloc::Global;
 use std::mem;
 use std::test::Fail;
 
-/// For each expression of a graph, which has to be split, that the lazy placement inserts, a line with the expression,
-/// the number of its insertions, that of its replaced uses, and that of the edges on which its temporary is held; and
-/// one with these edges.
-pub(crate) fn ranges_text(alloc: Global, graph: &Graph) -> Result<String, Fail> {
+/// For each expression of a graph, which has to be split, that the lazy placement inserts, appends a line with the
+/// expression, the number of its insertions, that of its replaced uses, and that of the edges on which its temporary is
+/// held; and one with these edges.
+pub(crate) fn put_ranges(alloc: Global, text: &mut String, graph: &Graph) -> Result<(), Fail> {
     let edges = split_edges(alloc, graph)?;
-    let text = text_over(alloc, graph, &edges);
+    let put = put_over(alloc, text, graph, &edges);
     mem::drop(edges);
-    Ok(text?)
+    Ok(put?)
 }
 
-/// The text of `ranges_text`, by the edges of the graph, which is split.
-fn text_over(alloc: Global, graph: &Graph, edges: &Edges) -> Result<String, Memory>
+/// Appends these lines, by the edges of the graph, which is split.
+fn put_over(alloc: Global, text: &mut String, graph: &Graph, edges: &Edges) -> Result<(), Memory>
     requires split { IsSplit graph.now.nodes }
     requires edges { edges.now ≡ edges_of graph.now.nodes }
 {
     let table = exprs(alloc, graph)?;
-    let text = text_of(alloc, graph, edges, &table);
+    let put = put_table(alloc, text, graph, edges, &table);
     mem::drop(table);
-    text
+    put
 }
 
-/// The lines of where the temporaries of a table live, one for each expression.
-fn text_of(alloc: Global, graph: &Graph, edges: &Edges, table: &ExprTable) -> Result<String, Memory>
+/// Appends the lines of where the temporaries of a table live.
+fn put_table(
+    alloc: Global,
+    text: &mut String,
+    graph: &Graph,
+    edges: &Edges,
+    table: &ExprTable,
+) -> Result<(), Memory>
     requires split { IsSplit graph.now.nodes }
     requires edges { edges.now ≡ edges_of graph.now.nodes }
 {
     let placement = lazy(alloc, &EveryPath, graph, edges, table)?;
     let held = ranges(alloc, &EveryPath, graph, edges, table, &placement);
-    let text = match held {
-        Ok(held) => lines_of(alloc, graph.vars(), edges, table, &placement, &held),
+    let put = match held {
+        Ok(held) => put_held(alloc, text, graph.vars(), edges, table, &placement, &held),
         Err(refused) => Err(refused),
     };
     mem::drop(placement);
-    text
+    put
 }
 
-/// The lines of these expressions.
-fn lines_of(
+/// Appends the lines of these expressions.
+fn put_held(
     alloc: Global,
+    text: &mut String,
     vars: &[Name],
     edges: &Edges,
     table: &ExprTable,
     placement: &Placement,
     held: &Held,
-) -> Result<String, Memory>
+) -> Result<(), Memory>
     requires insert { AreEquallyLong (length table.now) placement.now.insert }
     requires replace { AreEquallyLong (length table.now) placement.now.replace }
     requires edges { AreEquallyLong (length table.now) held.now.edges }
 {
-    let mut text = String::new(alloc);
     let counts = count_ranges(alloc, table.len(), placement, held)?;
+    let put = put_lines(text, vars, edges, table, held, &counts);
+    mem::drop(counts);
+    put
+}
+
+/// Appends the lines of each.
+fn put_lines(
+    text: &mut String,
+    vars: &[Name],
+    edges: &Edges,
+    table: &ExprTable,
+    held: &Held,
+    counts: &RangeCounts,
+) -> Result<(), Memory> {
     for number in 0..table.len() {
-        put_line(&mut text, vars, table, &counts, number)?;
-        put_edges(&mut text, edges, held, &counts, number)?;
+        put_line(text, vars, table, counts, number)?;
+        put_edges(text, edges, held, counts, number)?;
     }
-    Ok(text)
+    Ok(())
 }
 
 /// Appends the line of the expression of this number, where it is inserted.

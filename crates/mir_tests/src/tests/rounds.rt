@@ -12,17 +12,18 @@ use std::test::Fail;
 /// round changes nothing. Twenty would want twenty-one rounds, and sixteen are made.
 #[test]
 fn rounds_stop_at_sixteen(rt: HostRuntime) -> Result<(), Fail> {
-    let three = rounds_of(rt.alloc(), 3)?;
-    assert!(rt; three == (4, false));
-    let twenty = rounds_of(rt.alloc(), 20)?;
-    assert!(rt; twenty == (16, true));
+    for (sums, made) in [(3, (4, false)), (20, (16, true))].iter() {
+        assert!(rt; rounds_of(rt.alloc(), *sums)? == *made);
+    }
     Ok(())
 }
 
 /// How many rounds are made of a unit with so many sums, and whether one more would change the last.
 fn rounds_of(alloc: Global, sums: u32) -> Result<(usize, bool), Fail> {
     let text = chain(alloc, sums)?;
-    let graph = graph_of(alloc, text.as_str())?;
+    let graph = graph_of(alloc, text.as_str());
+    mem::drop(text);
+    let graph = graph?;
     let split = split(alloc, &graph);
     mem::drop(graph);
     let split = split?;
@@ -33,12 +34,18 @@ fn rounds_of(alloc: Global, sums: u32) -> Result<(usize, bool), Fail> {
 
 /// The text of a unit with so many sums, each of the one before, of which one way from a test needs the last.
 fn chain(alloc: Global, sums: u32) -> Result<String, AllocError> {
-    let mut text = String::from_str(alloc, "main: begin\nreceive x0(val)\n")?;
-    for sum in 0..sums {
-        write!(&mut text, "x{} <- x{sum} + 1\n", sum + 1)?;
-    }
-    write!(&mut text, "if x0 goto L\nreturn x0\nL: return x{sums}\nend")?;
+    let mut text = String::new(alloc);
+    put_chain(&mut text, sums)?;
     Ok(text)
+}
+
+/// Appends it.
+fn put_chain(text: &mut String, sums: u32) -> Result<(), AllocError> {
+    text.push_str("main: begin\nreceive x0(val)\n")?;
+    for sum in 0..sums {
+        write!(text, "x{} <- x{sum} + 1\n", sum + 1)?;
+    }
+    write!(text, "if x0 goto L\nreturn x0\nL: return x{sums}\nend")
 }
 
 /// How many rounds are made of a graph, which has to be split, and whether one more would change the last.
@@ -50,14 +57,15 @@ fn rounds_on(alloc: Global, graph: &Graph) -> Result<(usize, bool), Fail> {
         return Err("not split".into());
     }
     let made = rounds(alloc, graph)?;
-    let graphs = made.graphs.items();
-    let changed = match graphs.last() {
-        Some(last) => would_change(alloc, last),
-        None => Err("no round".into()),
-    };
-    let count = graphs.len();
+    let counted = counted(alloc, made.graphs.items());
     mem::drop(made);
-    Ok((count, changed?))
+    counted
+}
+
+/// How many graphs there are, and whether a round would change the last.
+fn counted(alloc: Global, graphs: &[Graph]) -> Result<(usize, bool), Fail> {
+    let last = graphs.last().ok_or("no round")?;
+    Ok((graphs.len(), would_change(alloc, last)?))
 }
 
 /// Whether a round changes a graph, which has to be split.

@@ -1,26 +1,33 @@
-// The texts of programs, graphs and rows, and what changes from one text to another.
+// The texts of programs, graphs and rows, and what changes from one text to another. What is shown is appended to one
+// text, so that each function holds one value alone that has memory of its own, over a call that does not fail: the
+// proof of a test becomes long where several are to be given back.
 use bit_rows::Rows;
 use flow_graph::{Graph, Node};
 use mir_base::{Memory, Name, Operand, Program, Rhs, Test, op_text, rel_op_text, un_op_text};
 use mir_print::print;
 use std::alloc::Global;
+use std::mem;
+use std::test::Fail;
 
-/// The canonical text of a program.
-pub(crate) fn program_text(alloc: Global, program: &Program) -> Result<String, Memory> {
+/// Appends the canonical text of a program.
+pub(crate) fn put_program(
+    alloc: Global,
+    text: &mut String,
+    program: &Program,
+) -> Result<(), Memory> {
     let bytes = print(alloc, program)?;
-    let mut text = String::new(alloc);
-    put_bytes(&mut text, bytes.as_slice())?;
-    Ok(text)
+    let put = put_bytes(text, bytes.as_slice());
+    mem::drop(bytes);
+    put
 }
 
-/// The text of a graph: a line for each node, by its number, with the numbers of its successors.
-pub(crate) fn graph_text(alloc: Global, graph: &Graph) -> Result<String, Memory> {
-    let mut text = String::new(alloc);
+/// Appends a line for each node of a graph, by its number, with the numbers of its successors.
+pub(crate) fn put_graph(text: &mut String, graph: &Graph) -> Result<(), Memory> {
     for (number, node) in graph.nodes().iter().enumerate() {
         write!(text, "{number}: ")?;
-        put_node(&mut text, graph.vars(), node)?;
+        put_node(text, graph.vars(), node)?;
     }
-    Ok(text)
+    Ok(())
 }
 
 /// Appends the line of a node.
@@ -69,10 +76,15 @@ fn put_node(text: &mut String, vars: &[Name], node: &Node) -> Result<(), Memory>
 /// Appends each operand, after a blank.
 fn put_operands(text: &mut String, vars: &[Name], operands: &[Operand]) -> Result<(), Memory> {
     for operand in operands {
-        text.push(' ')?;
-        put_operand(text, vars, operand)?;
+        put_behind_blank(text, vars, operand)?;
     }
     Ok(())
+}
+
+/// Appends an operand, after a blank.
+fn put_behind_blank(text: &mut String, vars: &[Name], operand: &Operand) -> Result<(), Memory> {
+    text.push(' ')?;
+    put_operand(text, vars, operand)
 }
 
 /// Appends a right side.
@@ -174,4 +186,19 @@ fn has_line(text: &str, wanted: &str) -> bool {
         }
     }
     false
+}
+
+/// The text of an example, and the parts of what is shown of it.
+pub(crate) fn text_and_shown(example: &str) -> Option<(&str, &str)> {
+    let (_, example) = example.split_once('\n')?;
+    example.split_once("$ ")
+}
+
+/// Fails where the passes did not make what was wanted of a text, with what they made.
+pub(crate) fn show_same(text: &str, passes: &str, made: &str, wanted: &str) -> Result<(), Fail> {
+    if made == wanted {
+        Ok(())
+    } else {
+        Err(Fail::new(format_args!("{text}$ {passes}\n{made}")))
+    }
 }

@@ -2,7 +2,7 @@
 ghost use Rattle.std.specs.Prelude.{IfOk};
 ghost use Rattle.mir_opt.specs.Stages.{AllKeep, graph_at};
 
-use crate::tests::shown::{program_text, put_changes};
+use crate::tests::shown::{put_changes, put_program};
 use crate::tests::support::program_of;
 use mir_base::Memory;
 use mir_opt::{Stage, Trail, optimise, stage_program, stages_of};
@@ -85,12 +85,34 @@ if i < 9 goto L1
 /// The program of each stage.
 #[test]
 fn programs_of_stages(rt: HostRuntime) -> Result<(), Fail> {
-    let trail = trail_of(rt.alloc())?;
-    let text = stages_text(rt.alloc(), &trail);
+    let text = stages_text(rt.alloc())?;
+    let shown = show_stages(text.as_str());
+    mem::drop(text);
+    shown
+}
+
+/// Fails where the stages are not those of the text above.
+fn show_stages(text: &str) -> Result<(), Fail> {
+    if text == STAGES {
+        Ok(())
+    } else {
+        Err(Fail::new(text))
+    }
+}
+
+/// What each stage changes.
+fn stages_text(alloc: Global) -> Result<String, Fail> {
+    let mut text = String::new(alloc);
+    put_all(alloc, &mut text)?;
+    Ok(text)
+}
+
+/// Appends it.
+fn put_all(alloc: Global, text: &mut String) -> Result<(), Fail> {
+    let trail = trail_of(alloc)?;
+    let put = put_trail(alloc, text, &trail);
     mem::drop(trail);
-    let text = text?;
-    assert!(rt; text.as_str() == STAGES, "{text}");
-    Ok(())
+    Ok(put?)
 }
 
 /// What the passes make of the program.
@@ -100,31 +122,87 @@ fn trail_of(alloc: Global) -> Result<Trail, Fail>
     let program = program_of(alloc, TEXT)?;
     let trail = optimise(alloc, &program);
     mem::drop(program);
-    let trail = trail?;
-    Ok(trail)
+    Ok(trail?)
 }
 
-/// What each stage changes.
-fn stages_text(alloc: Global, trail: &Trail) -> Result<String, Memory>
+/// Appends what each stage of a trail changes.
+fn put_trail(alloc: Global, text: &mut String, trail: &Trail) -> Result<(), Memory>
     requires { AllKeep graph_at trail.now.source.units trail.now.units }
 {
-    let mut text = String::new(alloc);
-    let mut before = String::from_str(alloc, TEXT)?;
-    for stage in stages_of(alloc, trail)? {
-        let after = text_at(alloc, trail, stage)?;
-        write!(&mut text, "$ {stage:?}\n")?;
-        put_changes(&mut text, before.as_str(), after.as_str())?;
-        before = after;
+    let stages = stages_of(alloc, trail)?;
+    let put = put_stages(alloc, text, trail, stages.as_slice());
+    mem::drop(stages);
+    put
+}
+
+/// Appends what each of these stages changes.
+fn put_stages(
+    alloc: Global,
+    text: &mut String,
+    trail: &Trail,
+    stages: &[Stage],
+) -> Result<(), Memory>
+    requires { AllKeep graph_at trail.now.source.units trail.now.units }
+{
+    let mut before = None;
+    for stage in stages {
+        put_stage(alloc, text, trail, before, *stage)?;
+        before = Some(*stage);
     }
-    Ok(text)
+    Ok(())
+}
+
+/// Appends what a stage changes of the program at the one before it, or of the text where there is none.
+fn put_stage(
+    alloc: Global,
+    text: &mut String,
+    trail: &Trail,
+    before: Option<Stage>,
+    stage: Stage,
+) -> Result<(), Memory>
+    requires { AllKeep graph_at trail.now.source.units trail.now.units }
+{
+    write!(text, "$ {stage:?}\n")?;
+    let before = match before {
+        Some(before) => text_at(alloc, trail, before)?,
+        None => String::from_str(alloc, TEXT)?,
+    };
+    let put = put_since(alloc, text, trail, before.as_str(), stage);
+    mem::drop(before);
+    put
+}
+
+/// The same, where the text before it is this.
+fn put_since(
+    alloc: Global,
+    text: &mut String,
+    trail: &Trail,
+    before: &str,
+    stage: Stage,
+) -> Result<(), Memory>
+    requires { AllKeep graph_at trail.now.source.units trail.now.units }
+{
+    let after = text_at(alloc, trail, stage)?;
+    let put = put_changes(text, before, after.as_str());
+    mem::drop(after);
+    put
 }
 
 /// The text of the program of a stage.
 fn text_at(alloc: Global, trail: &Trail, stage: Stage) -> Result<String, Memory>
     requires { AllKeep graph_at trail.now.source.units trail.now.units }
 {
+    let mut text = String::new(alloc);
+    put_text_at(alloc, &mut text, trail, stage)?;
+    Ok(text)
+}
+
+/// Appends it.
+fn put_text_at(alloc: Global, text: &mut String, trail: &Trail, stage: Stage) -> Result<(), Memory>
+    requires { AllKeep graph_at trail.now.source.units trail.now.units }
+{
     let program = stage_program(alloc, trail, stage)?;
-    let text = program_text(alloc, &program);
+    let put = put_program(alloc, text, &program);
     mem::drop(program);
-    text
+    put
 }

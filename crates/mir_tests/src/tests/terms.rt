@@ -8,15 +8,14 @@ use std::alloc::Global;
 use std::mem;
 use value_number::{NodeTerms, TermKey};
 
-/// A line for each node of a graph: the root at which the terms before it begin, and the term of each variable that has
-/// a number, as all have that have another than their leaf of the root. The leaf of a variable is its name with the
-/// number of its root.
-pub(crate) fn terms_text(alloc: Global, graph: &Graph) -> Result<String, Memory> {
-    let mut text = String::new(alloc);
+/// Appends a line for each node of a graph: the root at which the terms before it begin, and the term of each variable
+/// that has a number, as all have that have another than their leaf of the root. The leaf of a variable is its name with
+/// the number of its root.
+pub(crate) fn put_all_terms(alloc: Global, text: &mut String, graph: &Graph) -> Result<(), Memory> {
     for n in 0..graph.len() {
-        put_node_terms(alloc, &mut text, graph, n)?;
+        put_node_terms(alloc, text, graph, n)?;
     }
-    Ok(text)
+    Ok(())
 }
 
 /// Appends the line of node `n`.
@@ -67,11 +66,33 @@ fn put_line(
 /// stand there, its text would be a `?`.
 fn term_texts(alloc: Global, vars: &[Name], terms: &NodeTerms) -> Result<Vec<String>, Memory> {
     let mut texts = Vec::new(alloc);
-    for number in 0..terms.table.len() {
-        let text = term_text(alloc, vars, texts.as_slice(), *terms.table.get(number))?;
-        texts.push(text)?;
-    }
+    push_texts(alloc, &mut texts, vars, terms)?;
     Ok(texts)
+}
+
+/// Appends these texts to none.
+fn push_texts(
+    alloc: Global,
+    texts: &mut Vec<String>,
+    vars: &[Name],
+    terms: &NodeTerms,
+) -> Result<(), Memory> {
+    for number in 0..terms.table.len() {
+        push_text(alloc, texts, vars, *terms.table.get(number))?;
+    }
+    Ok(())
+}
+
+/// Appends the text of a term to those of the terms before it.
+fn push_text(
+    alloc: Global,
+    texts: &mut Vec<String>,
+    vars: &[Name],
+    key: TermKey,
+) -> Result<(), Memory> {
+    let text = term_text(alloc, vars, texts.as_slice(), key)?;
+    texts.push(text)?;
+    Ok(())
 }
 
 /// The text of a term, where its operands have these.

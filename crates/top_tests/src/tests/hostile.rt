@@ -1,22 +1,16 @@
 // Broken texts, odd graphs and devices that fail: one table of calls, and what each of them leaves.
-use crate::tests::devices::{
-    Devices, NO_FAULT, SMALLEST, SMALLEST_OUTPUT, Seen, call, owned, repeated, sink, source,
-    status_of,
-};
+use crate::tests::devices::{Devices, Kind, Left, NO_FAULT, SMALLEST, SMALLEST_OUTPUT, leaves};
+use crate::tests::hostile::Due::{All, Bad, Line, Output, Part, Refused, Same};
 use crate::tests::hostile::Given::{
-    Bytes, Faultless, Front, InterruptedRead, InterruptedWrite, Lines, Name, Reads, Text, Units,
-    Writes,
+    Bytes, Faultless, Front, InterruptedRead, InterruptedWrite, Lines, Name, Prints, Reads, Text,
+    Units, Writes,
 };
-use crate::tests::hostile::Left::{All, Bad, Line, Output, Part, Refused, Same};
-use mir_outside::{FaultlessSink, FaultlessSource, MemSink, StdSink, StdSource};
-use mir_top::faultless_top;
 use std::alloc::{AllocError, Global};
-use std::io;
-use std::io::{ErrorKind, Read, Write};
+use std::mem;
 use std::test::Fail;
 
 /// A case: what is given, and what is left.
-type Case = (Given, Left);
+type Case = (Given, Due);
 
 /// What a case is given. Where it has two numbers, it is tried for each number from the one to the other.
 #[derive(Clone, Copy)]
@@ -27,6 +21,8 @@ enum Given {
     Bytes(usize, u8),
     /// So many units of one name.
     Units(usize),
+    /// A program of so many prints.
+    Prints(usize),
     /// A program that receives a variable with a name of so many bytes.
     Name(usize),
     /// So many of the first bytes of this text.
@@ -48,7 +44,7 @@ enum Given {
 
 /// What the call of a case is to leave: its status and its outputs.
 #[derive(Clone, Copy)]
-enum Left {
+enum Due {
     /// Status 0, and the text that was given as the output.
     Same,
     /// Status 0, and this output.
@@ -66,7 +62,7 @@ enum Left {
 }
 
 /// The cases of `optimise`.
-const CASES: [Case; 24] = [
+const CASES: [Case; 25] = [
     // Each proper prefix of a text, of which the longest lacks the last line feed alone, and the text.
     (Front(MOST_FORMS, 0, 186), Refused),
     (Front(MOST_FORMS, 187, 188), Output(MOST_FORMS)),
@@ -84,8 +80,9 @@ const CASES: [Case; 24] = [
     // As many bytes as a name may have, and one more.
     (Name(64), Same),
     (Name(65), Bad(b"line 2: long name\n")),
-    // One more unit than a program may have.
+    // One more unit than a program may have, and one more instruction than a unit.
     (Units(257), Bad(b"too many units\n")),
+    (Prints(16385), Bad(b"line 16386: too many instructions\n")),
     // A loop of one test.
     (Text(SELF_LOOP), Same),
     // A read that fails, and the call after the last one.
@@ -195,27 +192,50 @@ printed 14
 /// Each call leaves what its case says.
 #[test]
 fn hostile_calls(rt: HostRuntime) -> Result<(), Fail> {
-    for (number, case) in CASES.into_iter().enumerate() {
-        assert!(rt; is_right(rt.alloc(), "optimise", case)?, "case {number}");
+    for (number, case) in CASES.iter().enumerate() {
+        assert!(rt; is_right(rt.alloc(), "optimise", *case)?, "case {number}");
     }
-    for (words, case) in OTHERS {
-        assert!(rt; is_right(rt.alloc(), words, case)?, "{words}");
+    for (words, case) in OTHERS.iter() {
+        assert!(rt; is_right(rt.alloc(), words, *case)?, "{words}");
     }
     Ok(())
 }
 
 /// Whether a case leaves what it says, for each of its numbers.
 fn is_right(alloc: Global, words: &str, case: Case) -> Result<bool, AllocError> {
-    let (given, left) = case;
-    let (first, last) = given.numbers();
+    let (first, last) = case.0.numbers();
     for number in first..=last {
-        let text = given.text(alloc, number)?;
-        let seen = given.seen(alloc, words, &text, number)?;
-        if !left.is(&text, number, &seen) {
+        if !is_right_at(alloc, words, case, number)? {
             return Ok(false);
         }
     }
     Ok(true)
+}
+
+/// Whether it leaves that for this number.
+fn is_right_at(alloc: Global, words: &str, case: Case, number: u64) -> Result<bool, AllocError> {
+    let text = case.0.text(alloc, number)?;
+    let is_right = is_right_with(alloc, words, case, number, &text);
+    mem::drop(text);
+    is_right
+}
+
+/// The same, with this text.
+fn is_right_with(
+    alloc: Global,
+    words: &str,
+    case: Case,
+    number: u64,
+    text: &[u8],
+) -> Result<bool, AllocError> {
+    let (given, due) = case;
+    leaves(
+        alloc,
+        words,
+        text,
+        given.devices(number),
+        due.left(text, number),
+    )
 }
 
 impl Given {
@@ -235,6 +255,13 @@ impl Given {
             Given::Text(text) => text.to_vec(alloc),
             Given::Bytes(count, byte) => vec![in alloc; byte; count],
             Given::Units(count) => repeated(alloc, b"", b"u: begin\nend\n", count, b""),
+            Given::Prints(count) => repeated(
+                alloc,
+                b"main: begin\n",
+                b"print 1\n",
+                count,
+                b"end\n",
+            ),
             Given::Name(bytes) => {
                 let (start, end) = (b"f: begin\nreceive ", b"(val)\nreturn 0\nend\n");
                 repeated(alloc, start, b"n", bytes, end)
@@ -248,135 +275,81 @@ impl Given {
 
     /// How the devices behave.
     fn devices(self, number: u64) -> Devices {
-        let (failing_read, failing_write, failing_line) = match self {
-            Given::Reads(..) => (number, 0, 0),
-            Given::Writes(..) => (0, number, 0),
-            Given::Lines(_, write, line) => (0, write, line),
-            _ => return NO_FAULT,
-        };
-        Devices {
-            read_piece: 5,
-            failing_read,
-            write_piece: 1,
-            failing_write,
-            failing_line,
-        }
-    }
-
-    /// What the call leaves.
-    fn seen(
-        self,
-        alloc: Global,
-        words: &str,
-        text: &[u8],
-        number: u64,
-    ) -> Result<Seen, AllocError> {
         match self {
-            Given::InterruptedRead => seen_at_interrupted_read(alloc, words),
-            Given::InterruptedWrite => seen_at_interrupted_write(alloc, words, text),
-            Given::Faultless(_) => seen_by_faultless_devices(alloc, words, text),
-            _ => call(alloc, words, text, self.devices(number)),
+            Given::Reads(..) => slow(number, 0, 0),
+            Given::Writes(..) => slow(0, number, 0),
+            Given::Lines(_, write, line) => slow(0, write, line),
+            Given::InterruptedRead => of_kind(Kind::InterruptedRead),
+            Given::InterruptedWrite => of_kind(Kind::InterruptedWrite),
+            Given::Faultless(_) => of_kind(Kind::Faultless),
+            _ => NO_FAULT,
         }
     }
 }
 
-impl Left {
-    /// Whether this is what the call with this text and number left.
-    fn is(self, text: &[u8], number: u64, seen: &Seen) -> bool {
-        let out = seen.out.written();
+/// Devices of a kind in which no other fault occurs.
+fn of_kind(kind: Kind) -> Devices {
+    Devices { kind, ..NO_FAULT }
+}
+
+/// Devices that move few bytes a call, and fail at these calls.
+fn slow(failing_read: u64, failing_write: u64, failing_line: u64) -> Devices {
+    Devices {
+        read_piece: 5,
+        failing_read,
+        write_piece: 1,
+        failing_write,
+        failing_line,
+        ..NO_FAULT
+    }
+}
+
+impl Due {
+    /// The same, of a call with this text and number.
+    fn left(self, text: &[u8], number: u64) -> Left<'_> {
         match self {
-            Left::Same => seen.left(0, text, b""),
-            Left::Output(output) => seen.left(0, output, b""),
-            Left::Line(status, line) => seen.left(status, b"", line),
-            Left::Bad(line) => seen.left(2, b"", line),
-            Left::Refused => seen.left(2, b"", seen.err.written()) && is_line(seen.err.written()),
-            Left::Part(output) => {
-                seen.left(7, out, b"write fault\n")
-                    && output.starts_with(out)
-                    && out.len() as u64 + 1 == number
-            }
-            Left::All(status, output, line) => seen.left(status, output, line),
+            Due::Same => Left::Output(text),
+            Due::Output(output) => Left::Output(output),
+            Due::Line(status, line) => Left::Line(status, line),
+            Due::Bad(line) => Left::Line(2, line),
+            Due::Refused => Left::Refused,
+            Due::Part(output) => Left::All(7, front(output, number), b"write fault\n"),
+            Due::All(status, output, line) => Left::All(status, output, line),
         }
     }
 }
 
-/// Whether the bytes are one line.
-fn is_line(bytes: &[u8]) -> bool {
-    !bytes.is_empty() && bytes.iter().position(|byte| *byte == b'\n') == bytes.len().checked_sub(1)
+/// The bytes before the one of this number, counted from 1.
+fn front(bytes: &[u8], number: u64) -> &[u8] {
+    bytes
+        .get(..(number as usize).saturating_sub(1))
+        .unwrap_or(bytes)
 }
 
-/// A reader and a writer whose first call a signal interrupts. Each later one succeeds, so that one more try would
-/// show.
-#[derive(Drop)]
-struct Interrupted {
-    tried: bool,
-}
-
-impl Read for Interrupted {
-    /// Reads nothing, and fails the first time.
-    fn read(&mut self, _: &mut [u8]) -> io::Result<usize> {
-        if self.tried {
-            return Ok(0);
-        }
-        self.tried = true;
-        Err(io::Error::from(ErrorKind::Interrupted))
-    }
-}
-
-impl Write for Interrupted {
-    /// Writes all, and fails the first time.
-    fn write(&mut self, piece: &[u8]) -> io::Result<usize> {
-        if self.tried {
-            return Ok(piece.len());
-        }
-        self.tried = true;
-        Err(io::Error::from(ErrorKind::Interrupted))
-    }
-
-    /// Has nothing to write.
-    fn flush(&mut self) -> io::Result<()> {
-        Ok(())
-    }
-}
-
-/// What a call leaves whose reads are interrupted.
-fn seen_at_interrupted_read(alloc: Global, words: &str) -> Result<Seen, AllocError> {
-    let words = owned(alloc, words)?;
-    let mut out = sink(alloc, 1, 0, 100)?;
-    let mut err = sink(alloc, 1, 0, 100)?;
-    let mut source = StdSource::new(Interrupted { tried: false });
-    let status = status_of(alloc, &words, &mut source, &mut out, &mut err);
-    Ok(Seen { status, out, err })
-}
-
-/// What a call leaves whose writes are interrupted; it is given a second sink, which is not written to, to show.
-fn seen_at_interrupted_write(alloc: Global, words: &str, text: &[u8]) -> Result<Seen, AllocError> {
-    let words = owned(alloc, words)?;
-    let mut source = source(alloc, text, NO_FAULT)?;
-    let mut err = sink(alloc, 1, 0, 100)?;
-    let out = sink(alloc, 1, 0, 0)?;
-    let mut interrupted = StdSink::new(Interrupted { tried: false });
-    let status = status_of(alloc, &words, &mut source, &mut interrupted, &mut err);
-    Ok(Seen { status, out, err })
-}
-
-/// What a call over devices that never fail leaves; of its output nothing is kept.
-fn seen_by_faultless_devices(alloc: Global, words: &str, text: &[u8]) -> Result<Seen, AllocError> {
-    let words = owned(alloc, words)?;
-    let mut source = FaultlessSource::new(text.to_vec(alloc)?);
-    let out = sink(alloc, 1, 0, 0)?;
-    let mut err = sink(alloc, 1, 0, 100)?;
-    let status = faultless_status(alloc, &words, &mut source, &mut err);
-    Ok(Seen { status, out, err })
-}
-
-/// The status of a call over devices that never fail.
-fn faultless_status(
+/// A text that has the same piece so many times, between a start and an end.
+pub fn repeated(
     alloc: Global,
-    words: &[String],
-    source: &mut FaultlessSource,
-    err: &mut MemSink,
-) -> u8 {
-    let reply = faultless_top(alloc, words, source, &mut FaultlessSink::new(), err);
-    reply.status
+    start: &[u8],
+    piece: &[u8],
+    count: usize,
+    end: &[u8],
+) -> Result<Vec<u8>, AllocError> {
+    let mut text = Vec::new(alloc);
+    push_repeated(&mut text, start, piece, count, end)?;
+    Ok(text)
+}
+
+/// Appends it.
+fn push_repeated(
+    text: &mut Vec<u8>,
+    start: &[u8],
+    piece: &[u8],
+    count: usize,
+    end: &[u8],
+) -> Result<(), AllocError> {
+    text.extend_from_slice(start)?;
+    for _ in 0..count {
+        text.extend_from_slice(piece)?;
+    }
+    text.extend_from_slice(end)
 }

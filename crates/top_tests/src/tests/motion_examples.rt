@@ -319,13 +319,13 @@ evals 1
 
 /// A text of a thousand diamonds, each of which evaluates the same expression.
 pub fn diamonds(alloc: Global) -> Result<Vec<u8>, AllocError> {
-    let start = b"main: begin\nreceive a(val)\nreceive b(val)\n";
+    let start = "main: begin\nreceive a(val)\nreceive b(val)\n";
     with_diamonds(alloc, start, 1, "a + b")
 }
 
 /// The text that `move` makes of it: the first diamond alone evaluates the expression.
 pub fn moved_diamonds(alloc: Global) -> Result<Vec<u8>, AllocError> {
-    let start = b"main: begin\nreceive a(val)\nreceive b(val)\n\
+    let start = "main: begin\nreceive a(val)\nreceive b(val)\n\
         if a goto L1\nprint a\nL1: h1 <- a + b\nx <- h1\nprint x\n";
     with_diamonds(alloc, start, 2, "h1")
 }
@@ -333,15 +333,22 @@ pub fn moved_diamonds(alloc: Global) -> Result<Vec<u8>, AllocError> {
 /// A text that begins so, and has the diamonds from this one to the thousandth, which assign the right side.
 fn with_diamonds(
     alloc: Global,
-    start: &[u8],
+    start: &str,
     first: usize,
     side: &str,
 ) -> Result<Vec<u8>, AllocError> {
-    let mut text = start.to_vec(alloc)?;
+    let mut text = String::from_str(alloc, start)?;
+    push_diamonds(&mut text, first, side)?;
+    Ok(text.into_bytes())
+}
+
+/// Appends these diamonds and the end.
+fn push_diamonds(text: &mut String, first: usize, side: &str) -> Result<(), AllocError> {
     for k in first..1001 {
-        let diamond = format!(in alloc; "if a goto L{k}\nprint a\nL{k}: x <- {side}\nprint x\n")?;
-        text.extend_from_slice(diamond.as_bytes())?;
+        write!(
+            text,
+            "if a goto L{k}\nprint a\nL{k}: x <- {side}\nprint x\n"
+        )?;
     }
-    text.extend_from_slice(b"return x\nend\n")?;
-    Ok(text)
+    text.push_str("return x\nend\n")
 }

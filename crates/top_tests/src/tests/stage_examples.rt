@@ -1,9 +1,8 @@
 // Worked examples of `stages`, byte for byte.
-use std::alloc::{AllocError, Global};
 
 /// An example: a text, and what is written of it in three parts, each the titles of some stages and the program at each
 /// of them.
-type StageExample = (&'static str, [(&'static str, &'static str); 3]);
+pub type StageExample = (&'static str, [(&'static str, &'static str); 3]);
 
 /// The smallest program, which is the same from the first stage on; one with a global and a trap; a copy, which two
 /// stages remove; and two units, of which one takes three rounds and the other two, so that at the third round this one
@@ -115,15 +114,3 @@ f: begin
 return 2
 end
 ";
-
-/// What is written in these parts.
-pub fn stages_written(alloc: Global, parts: [(&str, &str); 3]) -> Result<Vec<u8>, AllocError> {
-    let mut text = Vec::new(alloc);
-    for (titles, program) in parts {
-        for title in titles.split(", ") {
-            let stage = format!(in alloc; "|| {title}\n{program}")?;
-            text.extend_from_slice(stage.as_bytes())?;
-        }
-    }
-    Ok(text)
-}

@@ -1,23 +1,28 @@
 // Worked examples, byte for byte, and calls whose memory runs out.
 use crate::tests::chain_examples::CHAIN_EXAMPLES;
-use crate::tests::devices::{NO_FAULT, Seen, call, repeated};
+use crate::tests::devices::{Devices, Left, NO_FAULT, leaves};
 use crate::tests::examples::EXAMPLES;
-use crate::tests::hostile::{TRIAL, TRIAL_OUTPUT};
+use crate::tests::hostile::{TRIAL, TRIAL_OUTPUT, repeated};
 use crate::tests::motion_examples::{MOTION_EXAMPLES, diamonds, moved_diamonds};
 use crate::tests::refusals::{OTHER_WORDS, REFUSALS};
 use crate::tests::run_examples::RUN_EXAMPLES;
 use crate::tests::shared_examples::SHARED_EXAMPLES;
-use crate::tests::stage_examples::{STAGE_EXAMPLES, stages_written};
+use crate::tests::stage_examples::{STAGE_EXAMPLES, StageExample};
 use std::alloc::{AllocError, Global};
-use std::process::Abort;
+use std::mem;
 use std::test::Fail;
 
+/// Programs and texts, each with the calls that show what becomes of them.
+#[test]
+fn worked_examples(rt: HostRuntime) -> Result<(), Fail> {
+    for examples in WORKED.iter() {
+        assert_eq!(rt; first_wrong(rt.alloc(), examples)?, None);
+    }
+    Ok(())
+}
+
 /// The first example in which a call does not do what it says.
-///
-/// An example is a name, a text, and calls with this text: after `$` the words, after `@` the status and then what is
-/// written, on the output with the statuses 0, 3 and 4 and else on the error output. `@ same` is status 0 with the text
-/// as the output, and after `$ |` the text is what the call before wrote.
-fn first_wrong<'a>(alloc: Global, examples: &'a str) -> Result<Option<&'a str>, Fail> {
+fn first_wrong<'a>(alloc: Global, examples: &'a str) -> Result<Option<&'a str>, AllocError> {
     for example in examples.split("# ").skip(1) {
         if !is_right(alloc, example)? {
             return Ok(Some(example));
@@ -26,85 +31,136 @@ fn first_wrong<'a>(alloc: Global, examples: &'a str) -> Result<Option<&'a str>, 
     Ok(None)
 }
 
+/// The texts of all worked examples.
+const WORKED: [&str; 6] = [
+    EXAMPLES,
+    RUN_EXAMPLES,
+    MOTION_EXAMPLES,
+    SHARED_EXAMPLES,
+    CHAIN_EXAMPLES,
+    REFUSALS,
+];
+
 /// Whether each call of an example does what the example says.
-fn is_right(alloc: Global, example: &str) -> Result<bool, Fail> {
-    let (_, example) = example.split_once('\n').ok_or("no name")?;
-    let (text, calls) = example.split_once("$ ").ok_or("no call")?;
+///
+/// An example is a name, a text, and calls with this text: after `$` the words, after `@` the status and then what is
+/// written, on the output with the statuses 0, 3 and 4 and else on the error output. `@ same` is status 0 with the text
+/// as the output, and after `$ |` the text is what the call before wrote.
+fn is_right(alloc: Global, example: &str) -> Result<bool, AllocError> {
+    let Some((text, calls)) = text_and_calls(example) else {
+        return Ok(false);
+    };
     let mut before = text;
     for case in calls.split("$ ") {
-        let (words, rest) = case.split_once("\n@ ").ok_or("no status")?;
-        let (status, written) = rest.split_once('\n').ok_or("nothing written")?;
-        let (words, text) = match words.strip_prefix("| ") {
-            Some(words) => (words, before),
-            None => (words, text),
+        let Some(call) = call_of(case, text, before) else {
+            return Ok(false);
         };
-        let (status, written) = if status == "same" {
-            (0, text)
-        } else {
-            (status.parse::<u8>().ok().ok_or("no number")?, written)
-        };
-        if !leaves(alloc, words, text.as_bytes(), status, written.as_bytes())? {
+        if !leaves(alloc, call.words, call.text, NO_FAULT, call.left())? {
             return Ok(false);
         }
-        before = written;
+        before = call.written;
     }
     Ok(true)
 }
 
-/// Whether a call leaves this status, and these bytes where this status has them: on the output or on the error output.
-fn leaves(
-    alloc: Global,
-    words: &str,
-    text: &[u8],
-    status: u8,
-    written: &[u8],
-) -> Result<bool, AllocError> {
-    let seen = call(alloc, words, text, NO_FAULT)?;
-    if matches!(status, 0 | 3 | 4) {
-        Ok(seen.left(status, written, b""))
-    } else {
-        Ok(seen.left(status, b"", written))
-    }
+/// The text of an example, and its calls.
+fn text_and_calls(example: &str) -> Option<(&[u8], &str)> {
+    let (_, example) = example.split_once('\n')?;
+    let (text, calls) = example.split_once("$ ")?;
+    Some((text.as_bytes(), calls))
 }
 
-/// Programs and texts, each with the calls that show what becomes of them.
-#[test]
-fn worked_examples(rt: HostRuntime) -> Result<(), Fail> {
-    for examples in [
-        EXAMPLES,
-        RUN_EXAMPLES,
-        MOTION_EXAMPLES,
-        SHARED_EXAMPLES,
-        CHAIN_EXAMPLES,
-        REFUSALS,
-    ] {
-        assert_eq!(rt; first_wrong(rt.alloc(), examples)?, None);
+/// A call of an example: its words and its text, its status, and what is written.
+#[derive(Clone, Copy)]
+struct Call<'a> {
+    words: &'a str,
+    text: &'a [u8],
+    status: u8,
+    written: &'a [u8],
+}
+
+/// The call that these lines tell of, in an example of this text, behind a call that wrote this.
+fn call_of<'a>(lines: &'a str, text: &'a [u8], before: &'a [u8]) -> Option<Call<'a>> {
+    let (words, rest) = lines.split_once("\n@ ")?;
+    let (status, written) = rest.split_once('\n')?;
+    let (words, text) = match words.strip_prefix("| ") {
+        Some(words) => (words, before),
+        None => (words, text),
+    };
+    let (status, written) = if status == "same" {
+        (0, text)
+    } else {
+        (status.parse::<u8>().ok()?, written.as_bytes())
+    };
+    Some(Call {
+        words,
+        text,
+        status,
+        written,
+    })
+}
+
+impl Call<'_> {
+    /// What the call is to leave.
+    fn left(&self) -> Left<'_> {
+        if matches!(self.status, 0 | 3 | 4) {
+            Left::All(self.status, self.written, b"")
+        } else {
+            Left::Line(self.status, self.written)
+        }
     }
-    Ok(())
 }
 
 /// The programs of the stages.
 #[test]
 fn stages_of_programs(rt: HostRuntime) -> Result<(), Fail> {
-    for (text, parts) in STAGE_EXAMPLES {
-        let written = stages_written(rt.alloc(), parts)?;
-        assert!(rt;
-            leaves(rt.alloc(), "stages", text.as_bytes(), 0, &written)?,
-            "{text}"
-        );
+    for example in STAGE_EXAMPLES.iter() {
+        assert!(rt; has_stages(rt.alloc(), example, NO_FAULT)?, "{}", example.0);
     }
     Ok(())
+}
+
+/// Whether the stages of an example are written over these devices.
+fn has_stages(alloc: Global, example: &StageExample, on: Devices) -> Result<bool, AllocError> {
+    let left = Left::Stages(example.1.as_slice());
+    leaves(alloc, "stages", example.0.as_bytes(), on, left)
 }
 
 /// Words of no command: status 1, whatever the text.
 #[test]
 fn other_words(rt: HostRuntime) -> Result<(), Fail> {
-    let usage =
-        b"usage: mir optimise | stages | move | ranges | divisions | tails | join | thorough | passes [PASS ..] | run STEPS [N ..] | trial NUMBER UNITS\n";
     for words in OTHER_WORDS.split('\n') {
-        assert!(rt; leaves(rt.alloc(), words, b"", 1, usage)?, "with {words}");
+        let left = Left::Line(1, USAGE);
+        assert!(rt;
+            leaves(rt.alloc(), words, b"", NO_FAULT, left)?,
+            "with {words}"
+        );
     }
     Ok(())
+}
+
+/// What is written for words of no command.
+const USAGE: &[u8] =
+    b"usage: mir optimise | stages | move | ranges | divisions | tails | join | thorough | passes [PASS ..] | run STEPS [N ..] | trial NUMBER UNITS\n";
+
+/// As many instructions as a unit may have; `hostile.rt` has one more.
+#[test]
+fn limits(rt: HostRuntime) -> Result<(), Fail> {
+    assert!(rt; prints_get_a_return(rt.alloc(), 16384)?);
+    Ok(())
+}
+
+/// Whether a body of so many prints gets a return behind them.
+fn prints_get_a_return(alloc: Global, count: usize) -> Result<bool, AllocError> {
+    let text = prints(alloc, count, b"end\n")?;
+    let gets = makes(
+        alloc,
+        "optimise",
+        &text,
+        prints(alloc, count, b"return 0\nend\n"),
+    );
+    mem::drop(text);
+    gets
 }
 
 /// A body of so many prints.
@@ -112,75 +168,68 @@ fn prints(alloc: Global, count: usize, end: &[u8]) -> Result<Vec<u8>, AllocError
     repeated(alloc, b"main: begin\n", b"print 1\n", count, end)
 }
 
-/// As many instructions as a unit may have, and one more.
-#[test]
-fn limits(rt: HostRuntime) -> Result<(), Fail> {
-    let alloc = rt.alloc();
-    let longest = prints(alloc, 16384, b"end\n")?;
-    let output = prints(alloc, 16384, b"return 0\nend\n")?;
-    assert!(rt; leaves(alloc, "optimise", &longest, 0, &output)?);
-    let longer = prints(alloc, 16385, b"end\n")?;
-    assert!(rt;
-        leaves(
-            alloc,
-            "optimise",
-            &longer,
-            2,
-            b"line 16386: too many instructions\n"
-        )?
-    );
-    Ok(())
+/// Whether a call with these words and this text has this output.
+fn makes(
+    alloc: Global,
+    words: &str,
+    text: &[u8],
+    output: Result<Vec<u8>, AllocError>,
+) -> Result<bool, AllocError> {
+    let output = output?;
+    let makes = makes_this(alloc, words, text, &output);
+    mem::drop(output);
+    makes
+}
+
+/// Whether it has this output.
+fn makes_this(alloc: Global, words: &str, text: &[u8], output: &[u8]) -> Result<bool, AllocError> {
+    leaves(alloc, words, text, NO_FAULT, Left::Output(output))
 }
 
 /// A program with a thousand tests in a row.
 #[test]
 fn a_thousand_diamonds(rt: HostRuntime) -> Result<(), Fail> {
-    let text = diamonds(rt.alloc())?;
-    let output = moved_diamonds(rt.alloc())?;
-    assert!(rt; leaves(rt.alloc(), "move", &text, 0, &output)?);
+    assert!(rt; diamonds_are_moved(rt.alloc())?);
     Ok(())
+}
+
+/// Whether `move` makes of them what it is to make.
+fn diamonds_are_moved(alloc: Global) -> Result<bool, AllocError> {
+    let text = diamonds(alloc)?;
+    let moved = makes(alloc, "move", &text, moved_diamonds(alloc));
+    mem::drop(text);
+    moved
 }
 
 /// A trial of three units: the target evaluates no more than the source. That of the most units is on the page of the
 /// language, whose commands are run with the program.
 #[test]
 fn trials(rt: HostRuntime) -> Result<(), Fail> {
-    let seen = call(rt.alloc(), "trial 7 3", b"", NO_FAULT)?;
-    assert!(rt; evaluates_no_more(&seen));
+    assert!(rt; leaves(rt.alloc(), "trial 7 3", b"", NO_FAULT, Left::Trial)?);
     Ok(())
-}
-
-/// Whether a trial left status 0, and a summary whose fourth number is at most the third.
-fn evaluates_no_more(seen: &Seen) -> bool {
-    let out = seen.out.written();
-    let Ok(text) = str::from_utf8(out) else {
-        return false;
-    };
-    let before = number_after(text, "\nsource evals ");
-    let after = number_after(text, "\nresult evals ");
-    match (before, after) {
-        (Some(before), Some(after)) => seen.left(0, out, b"") && after <= before,
-        _ => false,
-    }
-}
-
-/// The number that stands behind this piece of a text.
-fn number_after(text: &str, piece: &str) -> Option<u64> {
-    let (_, rest) = text.split_once(piece)?;
-    let (number, _) = rest.split_once('\n')?;
-    number.parse::<u64>().ok()
 }
 
 /// For runs in which the allocations are refused in turn: a refusal before the call ends the test.
 #[test]
 fn memory_that_is_refused(rt: HostRuntime) {
-    for (words, text, output) in REFUSED_MEMORY {
-        assert!(rt; leaves_or_refuses(rt.alloc(), words, text, output));
+    for (words, text, output) in REFUSED_MEMORY.iter() {
+        assert!(rt; has_output_or_refuses(rt.alloc(), words, text, output));
     }
-    for (text, parts) in STAGE_EXAMPLES {
-        if let Ok(output) = stages_written(rt.alloc(), parts) {
-            assert!(rt; leaves_or_refuses(rt.alloc(), "stages", text.as_bytes(), &output));
-        }
+    for example in STAGE_EXAMPLES.iter() {
+        assert!(rt; has_stages(rt.alloc(), example, may_refuse()).unwrap_or(true));
+    }
+}
+
+/// Whether a call has this output or tells that memory ran out, where it comes to the call.
+fn has_output_or_refuses(alloc: Global, words: &str, text: &[u8], output: &[u8]) -> bool {
+    leaves(alloc, words, text, may_refuse(), Left::Output(output)).unwrap_or(true)
+}
+
+/// Devices in which no fault occurs, while memory may be refused.
+fn may_refuse() -> Devices {
+    Devices {
+        may_refuse: true,
+        ..NO_FAULT
     }
 }
 
@@ -316,11 +365,3 @@ goto L1
 L2: return 0
 end
 ";
-
-/// Whether a call leaves this output or tells that memory ran out, where it comes to the call.
-fn leaves_or_refuses(alloc: Global, words: &str, text: &[u8], output: &[u8]) -> bool {
-    match call(alloc, words, text, NO_FAULT) {
-        Ok(seen) => seen.left(0, output, b"") || seen.left(8, b"", b"out of memory\n"),
-        Err(_) => true,
-    }
-}
