@@ -21,9 +21,10 @@ is tried whether each works.
 
 `turns` and `times` measure seconds of one call after the other, and so does `native` behind what it makes: they want a
 machine that does nothing else. `limits` measures seconds of the processor, of N calls at a time, and the others count N
-at a time, beside whatever else the machine does. `real`, `beside`, `bril` and `rounds` count what programs evaluate that
-`mir` writes. So a program that `tools/build` makes of the same sources without proof may make them before, and a call
-with `--keep` and `--counted`, which names it, takes them, where both write the same of some drawn programs.
+at a time, beside whatever else the machine does. `real`, `left`, `beside`, `bril` and `rounds` count what programs
+evaluate that `mir` writes. So a program that `tools/build` makes of the same sources without proof may make them before,
+and a call with `--keep` and `--counted`, which names it, takes them, where both write the same of some drawn programs.
+`left` takes what `real` has judged with `--keep`, and judges it again without.
 
 The programs are those that the gate built where no others are named, and `mir_tables` is the one beside a `mir` that is
 named; where that is not proved, by the file `proof.txt` beside it, or with `--few`, README.md itself is not written. Of
@@ -56,9 +57,9 @@ import run  # noqa: E402
 import wanted  # noqa: E402
 
 PAGE = Path(__file__).resolve().parent / 'README.md'
-PARTS = ('real', 'native', 'beside', 'bril', 'turns', 'rounds', 'limits', 'times', 'counts')
+PARTS = ('real', 'left', 'native', 'beside', 'bril', 'turns', 'rounds', 'limits', 'times', 'counts')
 # Those that count what programs evaluate, and of how many programs of each kind it is asked whether two write the same.
-COUNTED, ALIKE = ('real', 'beside', 'bril', 'rounds'), 100
+COUNTED, ALIKE = ('real', 'left', 'beside', 'bril', 'rounds'), 100
 # What `--all` calls, a header without which it would refuse each program of csmith, and the workloads whose rows are
 # filled where few are taken.
 TOOLS = ('csmith', 'clang', 'opt', 'valgrind')
@@ -256,8 +257,8 @@ def fill_part(given: argparse.Namespace, part: str) -> None:
     """Puts the numbers of one part into the page."""
     how = fill_scripts.How(given.mir, given.csmith, given.gcc, given.keep, given.core, given.few, given.jobs,
                            given.counted)
-    if part in ('real', 'native'):
-        {'real': fill_scripts.real, 'native': fill_scripts.native}[part](given.page, how)
+    if part in ('real', 'left', 'native'):
+        {'real': fill_scripts.real, 'left': fill_scripts.left, 'native': fill_scripts.native}[part](given.page, how)
         return
     if part in ('times', 'counts'):
         page = fill(given, part == 'counts')

@@ -48,10 +48,14 @@ class How(NamedTuple):
         """These words where few are taken, and else none."""
         return list(words) if self.few else []
 
+    def of_judged(self) -> list[str]:
+        """The words of what programs of C are judged with, and kept."""
+        counted = ['--counted', self.counted] if self.counted else []
+        return ['--jobs', str(self.jobs), *(['--keep', self.keep] if self.keep else []), *counted]
+
     def of_real(self) -> list[str]:
         """The words for `real.py`."""
-        counted = ['--counted', self.counted] if self.counted else []
-        return ['--jobs', str(self.jobs), *(['--keep', self.keep] if self.keep else []), *counted, '--fill', '--page']
+        return [*self.of_judged(), '--fill', '--page']
 
 
 def said(how: How, script: str, *words: str) -> str:
@@ -86,6 +90,20 @@ def real(page: Path, how: How) -> None:
     text = paragraph(text, 'What `thorough` makes evaluates more', 'What `thorough` makes evaluates more operators than '
                      f'what `optimise` makes in {more:,} of {both:,} programs of csmith.')
     page.write_text(text, encoding='utf-8')
+
+
+def left(page: Path, how: How) -> None:
+    """Has `left.py` put its table into the page, and puts in what `loops.py` counts."""
+    programs = ['--csmith', str(how.csmith)]
+    said(how, 'left.py', *programs, *how.of_real(), str(page))
+    count, *found = re.findall(r'[\d,]+', said(how, 'loops.py', *programs, *how.of_judged()).rstrip().split('\n')[-1])
+    before, rotated, ahead, both = found
+    page.write_text(paragraph(
+        page.read_text(encoding='utf-8'), 'With such loops rotated',
+        f'With such loops rotated in the text, or evaluated ahead (`bench/loops.py`), of the {before} operators that '
+        f'`thorough` leaves of {count} programs of `inputs` remain {rotated} where they are rotated, {ahead} where they are '
+        f'evaluated, {both} by both.'),
+        encoding='utf-8')
 
 
 def native(page: Path, how: How) -> None:

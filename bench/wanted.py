@@ -29,14 +29,18 @@ VARIABLES = ('a', 'b', 'c', 'x', 'y', 'z', 'i', 'g')
 INPUTS = (0, 1, -1, 2, 127, 128, 255, 256, -129, 32_767, 65_535, -32_769, 2 ** 31, -2 ** 31 - 1, 2 ** 32 - 1, LEAST,
           -LEAST - 1)
 WIDTHS = (8, 16, 32)
+RECURSIVE = ('q', 'r')
 
 
 class Draw:
     """Draws a program of a unit with three inputs, in which numbers are cut down to narrow types and masked, and few are
-    looked at whole; it calls a second unit, and there is a global, and there are loops, divisions and traps."""
+    looked at whole; it calls a second unit and two that call each other and themselves, and there is a global, and there
+    are loops, divisions and traps."""
 
     def __init__(self, seed: int):
         self.random = random.Random(seed)
+        # How often a unit that calls itself may still do so, as the unit that is being drawn hands it on.
+        self.count = ''
 
     def variable(self) -> str:
         """A variable."""
@@ -117,22 +121,45 @@ class Draw:
             return [f'if {self.test()} goto {label}']
         if kind < 0.96:
             return [f'if {self.test()} trap {self.random.randrange(3)}']
-        if kind < 0.98:
+        if kind < 0.97:
             return [f'{self.random.choice(("x <-", "call"))} f,({self.operand()},int;{self.operand()},int)']
+        if kind < 0.98:
+            return [self.call()]
         return [f'goto {label}']
+
+    def call(self) -> str:
+        """A call of a unit that calls itself or the other one, which the count that it is handed puts an end to."""
+        into, unit = self.random.choice(('x <-', f'{self.variable()} <-', 'call')), self.random.choice(RECURSIVE)
+        return f'{into} {unit},({self.count},int;{self.operand()},int;{self.operand()},int)'
+
+    def recursive(self, unit: str) -> str:
+        """The text of a unit that calls itself or the other one once or twice, until what counts its calls is 0."""
+        self.count = 'n'
+        lines = [self.call()]
+        for _ in range(self.random.randint(1, 4)):
+            lines[self.random.choice((0, len(lines))):0] = self.instructions('out')
+        if self.random.random() < 0.3:
+            lines.append(self.call())
+        handed = self.random.choice(('x', 'g', self.variable(), 'p'))
+        return (f'{unit}: begin\nreceive n(val)\nreceive a(val)\nreceive b(val)\nif n < 1 goto out\nn <- n - 1\n'
+                + '\n'.join(lines) + f'\nout: return {handed}\nend\n')
 
     def program(self) -> str:
         """The text."""
+        self.count = str(self.random.randint(1, 4))
         places = self.random.randint(5, 20)
         lines = []
         for place in range(places):
             first, *others = self.instructions(f'L{self.random.randrange(places)}')
             lines += [f'L{place}: {first}', *others]
+        if self.random.random() < 0.7:
+            lines.insert(self.random.randint(0, len(lines)), self.call())
         received = ''.join(f'receive {name}(val)\n' for name in 'abc')
         result = self.random.choice((f'return {self.variable()}', f'r <- {self.variable()} and {self.mask()}\nreturn r'))
         inside = self.random.choice(('x <- a shl 56\nx <- x shra 56', 'g <- a and 255', 'print a', 'x <- a xor b'))
         callee = f'f: begin\nreceive a(val)\nreceive b(val)\n{inside}\nreturn x\nend\n'
-        return f'global g\nmain: begin\n{received}' + '\n'.join(lines) + f'\n{result}\nend\n' + callee
+        others = ''.join(self.recursive(unit) for unit in RECURSIVE)
+        return f'global g\nmain: begin\n{received}' + '\n'.join(lines) + f'\n{result}\nend\n' + callee + others
 
 
 class DrawTests(Draw):
