@@ -1,37 +1,43 @@
 // Which of the nodes that wait is visited next, where many visits were made already.
-ghost use Rattle.std.specs.Prelude.{◌≡◌, ◌<◌};
+ghost use Rattle.std.specs.Prelude.{◌≡◌, ◌<◌, IfSome, true};
+ghost use Rattle.node_list.specs.Lists.{is_listed};
 
+use crate::circles::Circles;
 use crate::{Flow, Memory};
 use node_list::Links;
 use std::alloc::Global;
 
-/// Finds the next of the nodes that wait, up or down from the one that was taken so last, and the lowest and the highest.
-/// A word has a bit for each of 64 nodes: those that wait have theirs set, and others may have.
+/// Finds the next of the nodes that wait: one of a short circle, and then up or down from the one that was taken so last,
+/// as far as any waits on this way. A word has a bit for each of 64 nodes: those that wait have theirs set, and others may
+/// have.
 ///
 /// Loops within each other make a list that is taken from the front alone pass over all of them once for each level,
 /// with news of one or two variables each time. On one way over the nodes, up or down, news go into loops and on the
-/// other out of them, each in one pass that takes along what it finds; and where a test leads out of a loop to the test
-/// of the next, the highest or the lowest node does. Nothing is said of the marks: whatever they have, each node that
-/// waits is visited.
+/// other out of them, each in one pass that takes along what it finds. Nothing is said of the marks: whatever they have,
+/// each node that waits is visited.
 #[derive(Drop)]
 pub(crate) struct Ends {
     words: Vec<u64>,
     visits: usize,
     last: usize,
+    falls: bool,
+    circles: Circles,
 }
 
-/// So many visits for each node are made in the order of the list. Then as many visits as there are nodes go up over
-/// them, as many take the highest, as many go down, as many take the lowest, and so on.
-const PATIENCE: usize = 4;
+/// So many visits for each node are made in the order of the list. Then the nodes that wait are taken up over them, down
+/// again, and so on.
+const PATIENCE: usize = 2;
 
 impl Ends {
-    /// For so many nodes. It fails only with `Memory`.
-    pub(crate) fn new(alloc: Global, nodes: usize) -> Result<Ends, Memory> {
+    /// For so many nodes, with these circles. It fails only with `Memory`.
+    pub(crate) fn new(alloc: Global, nodes: usize, circles: Circles) -> Result<Ends, Memory> {
         let words = vec![in alloc; 0; nodes / 64 + 1]?;
         Ok(Ends {
             words,
             visits: 0,
             last: 0,
+            falls: false,
+            circles,
         })
     }
 
@@ -39,6 +45,21 @@ impl Ends {
     pub(crate) fn restart(&mut self) {
         self.visits = 0;
         self.last = 0;
+        self.falls = false;
+        self.circles.restart();
+    }
+
+    /// A node that waits of the circles, where each node was visited once, if there is such a one. It does not allocate.
+    pub(crate) fn on_circle(&mut self, waiting: &Links, nodes: usize) -> Option<usize>
+        requires { waiting.now.nodes ≡ nodes }
+        ensures in_range { IfSome result (λ node. node < nodes) }
+        ensures waits { IfSome result (λ node. is_listed waiting.now.lists node ≡ true) }
+    {
+        if self.visits < nodes {
+            None
+        } else {
+            self.circles.next(waiting, nodes)
+        }
     }
 
     /// Whether the order of the list has been left, with so many nodes. It does not allocate.
@@ -101,34 +122,33 @@ impl Ends {
         }
     }
 
-    /// The node that is to be taken, by the number of visits. It takes its mark off, and does not allocate.
-    pub(crate) fn next(&mut self, nodes: usize) -> Option<usize> {
-        match self.visits / nodes.max(1) % 4 {
-            0 => self.up(),
-            1 => self.highest_below(nodes),
-            2 => self.down(),
-            _ => self.lowest_from(0),
+    /// The node that is to be taken: the next marked one on the way up or down that is gone now; where none is left on it,
+    /// the other way is gone. It takes its mark off, and does not allocate.
+    pub(crate) fn next(&mut self) -> Option<usize> {
+        let node = match self.onward() {
+            Some(node) => node,
+            None => self.turned()?,
+        };
+        self.last = node;
+        Some(node)
+    }
+
+    /// Turns round, and takes the mark off the next marked node then, or else off the one that was taken so last.
+    fn turned(&mut self) -> Option<usize> {
+        self.falls = !self.falls;
+        match self.onward() {
+            Some(node) => Some(node),
+            None => self.lowest_from(0),
         }
     }
 
-    /// Takes the mark off the lowest marked node above the one that was taken so last, or else off the lowest of all.
-    fn up(&mut self) -> Option<usize> {
-        let node = match self.lowest_from(self.last.saturating_add(1)) {
-            Some(node) => node,
-            None => self.lowest_from(0)?,
-        };
-        self.last = node;
-        Some(node)
-    }
-
-    /// Takes the mark off the highest marked node below the one that was taken so last, or else off the highest of all.
-    fn down(&mut self) -> Option<usize> {
-        let node = match self.highest_below(self.last) {
-            Some(node) => node,
-            None => self.highest_below(usize::MAX)?,
-        };
-        self.last = node;
-        Some(node)
+    /// Takes the mark off the next marked node above the one that was taken so last, or below it.
+    fn onward(&mut self) -> Option<usize> {
+        if self.falls {
+            self.highest_below(self.last)
+        } else {
+            self.lowest_from(self.last.saturating_add(1))
+        }
     }
 
     /// Takes the mark off the lowest marked node from this one on.

@@ -10,6 +10,7 @@
 //! of them.
 #![tactic(auto)]
 
+mod circles;
 mod ends;
 mod laws;
 mod news_kinds;

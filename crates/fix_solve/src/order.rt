@@ -6,32 +6,44 @@ use crate::{Flow, Memory};
 use std::alloc::Global;
 
 /// A walk over all edges, depth first, that goes back along the edges by which it came. `nexts` has the number of the
-/// next edge of each node that was seen, and `froms` the node from which the walk came to it, or, where that is none,
-/// the number of nodes; of a node that was not seen it has `UNSEEN`. `order` has the nodes that are left for good.
+/// next edge of each node that was seen, or `LEFT`, and `froms` the node from which the walk came to it, or, where that is
+/// none, the number of nodes; of a node that was not seen it has `UNSEEN`. `order` has the nodes that are left for good,
+/// and `backs` the two ends of each edge that closes a circle: it leads to a node that was not left yet, on the way to
+/// its own source.
 #[derive(Drop)]
-struct DepthFirst {
+pub(crate) struct DepthFirst {
     nexts: Vec<usize>,
-    froms: Vec<usize>,
-    order: Vec<usize>,
+    pub(crate) froms: Vec<usize>,
+    pub(crate) order: Vec<usize>,
+    pub(crate) backs: Vec<(usize, usize)>,
 }
 
 /// Stands for a node that was not seen.
 const UNSEEN: usize = usize::MAX;
 
-/// The nodes in postorder of the edges: each node before those that lead to it, but along the edges that close a loop.
-/// Where no edge leads down it lists none, for then the ascending order has each node after those that lead to it.
-pub(crate) fn order_of<F: Flow>(alloc: Global, flow: &F) -> Result<Vec<usize>, Memory>
+/// Stands for the next edge of a node that was left for good.
+const LEFT: usize = usize::MAX;
+
+/// The walk that has the nodes in postorder of the edges: each node before those that lead to it, but along the edges that
+/// close a circle. Where no edge leads down it has none, for then the ascending order has each node after those that lead
+/// to it.
+pub(crate) fn order_of<F: Flow>(alloc: Global, flow: &F) -> Result<DepthFirst, Memory>
     requires { F.valid flow.now }
-    ensures { IfOk result (λ order. AreNodes (F.net flow.now).nodes order.items) }
+    ensures { IfOk result (λ walk. AreNodes (F.net flow.now).nodes walk.order.items) }
 {
     let down = edges_down(flow);
     if down == 0 {
-        Ok(Vec::new(alloc))
+        Ok(DepthFirst {
+            nexts: Vec::new(alloc),
+            froms: Vec::new(alloc),
+            order: Vec::new(alloc),
+            backs: Vec::new(alloc),
+        })
     } else {
         // Most edges of a flow against the edges of a program lead down, and its last nodes are where it begins.
         let from_last = flow.edges() - down < down;
         let walk = walked(alloc, flow, from_last)?;
-        Ok(walk.order)
+        Ok(walk)
     }
 }
 
@@ -61,6 +73,7 @@ fn walked<F: Flow>(alloc: Global, flow: &F, from_last: bool) -> Result<DepthFirs
         nexts: vec![in alloc; 0; nodes]?,
         froms: vec![in alloc; UNSEEN; nodes]?,
         order: Vec::with_capacity(alloc, nodes)?,
+        backs: Vec::with_capacity(alloc, nodes)?,
     };
     for count in 0..nodes {
         let root = if from_last { nodes - 1 - count } else { count };
@@ -111,10 +124,14 @@ fn go_on<F: Flow>(walk: &mut DepthFirst, flow: &F, node: usize) -> Result<usize,
             see(walk, flow, node, target);
             Ok(target)
         } else {
+            if walk.nexts[target] != LEFT {
+                walk.backs.push((node, target))?;
+            }
             Ok(node)
         }
     } else {
         walk.order.push(node)?;
+        walk.nexts[node] = LEFT;
         Ok(walk.froms[node])
     }
 }

@@ -1,5 +1,6 @@
 // The worklist: nodes are taken from it, pushed along their edges, and targets that changed are put at the end. Nodes are
-// taken from the front at first, and where many visits were made by their numbers (`ends.rt`).
+// taken from the front at first, then short circles are brought to rest (`circles.rt`), and where many visits were made
+// nodes are taken by their numbers (`ends.rt`).
 ghost use Rattle.std.specs.Prelude.{◌≡◌, ◌≢◌, ℕ, ◌+◌, ◌<◌, ◌≤◌, ◌||◌, true, [], length, slice_index_or, IfNone, IfSome};
 ghost use Rattle.node_list.specs.Lists.{NoLongerLists, is_listed, list_at};
 ghost use Rattle.fix_solve.specs.Net.{AreOfSize, HoldsFirst, HoldsLeast, most_pushes};
@@ -127,13 +128,15 @@ fn drain<F: Flow>(
     requires working { Working F.Value.below (F.net flow.now) values.old
         (is_listed waiting.old.lists) AllDone }
     requires fit { NewsFit F.Value.News.fits (F.net flow.now).nodes (F.net flow.now).size news.old }
-    requires room { IsRoomy F.Value.Room.fits (F.net flow.now).nodes (F.net flow.now).size room.old }
+    requires room { IsRoomy F.Value.Room.fits (F.net flow.now).nodes (F.net flow.now).size
+        room.old }
     requires telling { Telling (F.net flow.now) (F.caught flow.now) values.old news.old }
     ensures one_list { IsOneList waiting.new }
     ensures nodes { waiting.new.nodes ≡ (F.net flow.now).nodes }
     ensures len { length values.new ≡ (F.net flow.now).nodes }
     ensures fit { NewsFit F.Value.News.fits (F.net flow.now).nodes (F.net flow.now).size news.new }
-    ensures room { IsRoomy F.Value.Room.fits (F.net flow.now).nodes (F.net flow.now).size room.new }
+    ensures room { IsRoomy F.Value.Room.fits (F.net flow.now).nodes (F.net flow.now).size
+        room.new }
     ensures sizes { AreOfSize F.Value.size (F.net flow.now) values.new }
     ensures least { HoldsLeast F.Value.below (F.net flow.now) values.new }
     ensures pushes { steps.new ≤ steps.old
@@ -157,9 +160,10 @@ fn take(waiting: &mut Links, ends: &mut Ends, nodes: usize) -> Option<usize>
         × (waiting.new ≡ waiting.old)) }
     ensures waited { IfSome result (λ node. is_listed waiting.old.lists node ≡ true) }
     ensures in_range { IfSome result (λ node. node < nodes) }
-    ensures listed { IfSome result (λ node. NoLongerLists node waiting.old.lists waiting.new.lists) }
+    ensures listed { IfSome result (λ node.
+        NoLongerLists node waiting.old.lists waiting.new.lists) }
 {
-    match end_of(ends, waiting, nodes) {
+    match chosen(ends, waiting, nodes) {
         Some(node) => {
             waiting.unlink(node);
             Some(node)
@@ -168,6 +172,23 @@ fn take(waiting: &mut Links, ends: &mut Ends, nodes: usize) -> Option<usize>
             let first = waiting.pop_front(0);
             first
         }
+    }
+}
+
+/// A node that waits, where the order of the list has been left and a circle or the marks have such a one.
+fn chosen(ends: &mut Ends, waiting: &Links, nodes: usize) -> Option<usize>
+    requires one_list { IsOneList waiting.now }
+    requires nodes { waiting.now.nodes ≡ nodes }
+    ensures in_range { IfSome result (λ node. node < nodes) }
+    ensures waits { IfSome result (λ node. is_listed waiting.now.lists node ≡ true) }
+{
+    // Where none waits, neither the circles nor the marks are searched.
+    if waiting.first(0).is_none() {
+        return None;
+    }
+    match ends.on_circle(waiting, nodes) {
+        Some(node) => Some(node),
+        None => end_of(ends, waiting, nodes),
     }
 }
 
@@ -180,7 +201,7 @@ fn end_of(ends: &mut Ends, waiting: &Links, nodes: usize) -> Option<usize>
     if !ends.are_taken(nodes) {
         return None;
     }
-    match ends.next(nodes) {
+    match ends.next() {
         None => None,
         Some(node) => {
             if node < nodes && waiting.is_listed(node) {

@@ -3,6 +3,7 @@ ghost use Rattle.std.specs.Prelude.{◌≡◌, ◌+◌, ◌<◌, ◌≤◌, IfOk
 ghost use Rattle.fix_solve.specs.NewsFlows.{NewsFit};
 ghost use Rattle.fix_solve.specs.Net.{AreOfSize, HoldsFirst, HoldsLeast, most_pushes};
 
+use crate::circles::Circles;
 use crate::ends::Ends;
 use crate::order::order_of;
 use crate::pushes::solve_from;
@@ -13,8 +14,9 @@ use std::marker::Model;
 
 /// A value for each node. Contracts see it as the list of these.
 ///
-/// It also holds what of each is news, room for one on its way, the list of the nodes that wait for a visit, marks by which its ends are found, and
-/// the order in which they are first visited, the last first, so that the solver does not allocate.
+/// It also holds what of each is news, room for one on its way, the list of the nodes that wait for a visit, what says
+/// which of them is next, and the order in which they are first visited, the last first, so that the solver does not
+/// allocate.
 #[derive(Drop)]
 pub struct Work<V: Lattice> {
     values: Vec<V>,
@@ -48,8 +50,10 @@ impl<V: Lattice + Drop> Work<V> {
         let news = first_news(alloc, flow)?;
         let room = flow.room(alloc)?;
         let waiting = Links::new(alloc, flow.nodes(), 1)?;
-        let order = order_of(alloc, flow)?;
-        let ends = Ends::new(alloc, flow.nodes())?;
+        let walk = order_of(alloc, flow)?;
+        let order = walk.order;
+        let circles = Circles::new(alloc, walk.froms, walk.backs)?;
+        let ends = Ends::new(alloc, flow.nodes(), circles)?;
         Ok(Work {
             values,
             news,

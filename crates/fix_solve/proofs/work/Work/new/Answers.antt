@@ -10,7 +10,7 @@ invariant_of-result g c =
       record {
         one_list = rw c.in_ok-waiting.ensures refl;
         nodes = rw c.in_ok-waiting.ensures (c.nodes.ensures ∙ sym len);
-        in_range = rw len c.in_ok-order.ensures;
+        in_range = rw len c.in_ok-walk.ensures;
       },
       news_from g.V.News.News.fits g.V.Lattice.size net c.in_ok-values.values.items c.in_ok-news.news.items
           len (λ n h. rw (c.in_ok-values.ensures.each n h) (laws.first_size n h)) c.in_ok-news.ensures,
