@@ -1,10 +1,12 @@
 -- What is known of variables, as it is kept in two lists, place by place.
-use Rattle.std.proofs.Common.{pos, ◌≡◌, ◌↔◌, ℕ, ℤ, Bool, false, zero, suc, ◌+◌, ◌<◌, ◌≤◌, slice_set, List, [], ◌∷◌, ◌++◌, length, take, replicate, get_or, refl, sym, ap, arith, ◌∙◌, ⊎_elim, take_all}
+use Rattle.std.proofs.Common.{pos, ◌≡◌, ◌↔◌, ℕ, ℤ, Bool, true, false, ◌&&◌, inl, inr, zero, suc, ◌+◌, ◌<◌, ◌≤◌, slice_set, List, [], ◌∷◌, ◌++◌, length, take, replicate, get_or, refl, sym, ap, arith, ◌∙◌, ⊎_elim, take_all}
 use Rattle.std.specs.List.{AllClonesOf, AppendsClonesOf}
+use Rattle.std.proofs.lemmas.Bool.{cases_eq}
 use Rattle.std.proofs.lemmas.List.{set-get_or}
 use Rattle.std.proofs.lemmas.Option.{slice_get-get_or}
 use Rattle.flow_graph.specs.ListLaws.{take_next}
 use Rattle.cond_flow.specs.FactLists.{IsJoinedKind, JoinedCode, StaysCode, decoded_each, joined_code}
+use Rattle.cond_flow.specs.Joining.{SameItems}
 use Rattle.cond_flow.specs.Rules.{OrderRules, Rules}
 
 -- where a path meets itself nothing is lost
@@ -107,3 +109,29 @@ pub listed_more : {K : Type 0} (ks list : List K) (x : ℕ) (k d : K) → x < le
 listed_more ks list x k d h so_far is =
     let more : take (x + 1) ks ≡ take x ks ++ get_or ks x d ∷ [] = ap (λ n. take n ks) (let e : x + 1 ≡ suc x = omega arith in e) ∙ take_next ks x (get_or ks x d) (slice_get-get_or ks x d h) in
     ap (λ l. l ++ k ∷ []) so_far ∙ ap (λ j. take x ks ++ j ∷ []) is ∙ sym more
+
+-- ---- parts of lists in which the same stands
+
+-- one place more
+pub items_more : {T : Type 0} (d : T) (xs ys : List T) (start i : ℕ) (same here : Bool) → (same ≡ true → SameItems d xs ys start i)
+    → (here ≡ true → get_or xs i d ≡ get_or ys i d) → (same && here) ≡ true → SameItems d xs ys start (i + 1)
+items_more d xs ys start i same here so_far is both = record {
+  each = λ k l h. elim (cases_eq k i) as (λ _. get_or xs k d ≡ get_or ys k d) [
+    | inl e ↦ rw e (is (and_parts same here both).1)
+    | inr apart ↦ (so_far (and_parts same here both).0).each k l (omega (arith, h, apart))
+  ];
+}
+  where
+    and_parts : (s t : Bool) → (s && t) ≡ true → (s ≡ true) × (t ≡ true)
+    and_parts true t on = (refl, on)
+    and_parts false t on = absurd (cc)
+
+-- where the same kinds and numbers stand the same is known
+pub codes_same : {K : Type 0} (decoded : ℕ → ℤ → K) (kinds others : List ℕ) (numbers others' : List ℤ) (start stop : ℕ) (otherwise : K)
+    → length numbers ≡ length kinds → length others' ≡ length others → stop ≤ length kinds → stop ≤ length others
+    → SameItems 0 kinds others start stop → SameItems (pos 0) numbers others' start stop
+    → (k : ℕ) → start ≤ k → k < stop → get_or (decoded_each decoded kinds numbers) k otherwise ≡ get_or (decoded_each decoded others others') k otherwise
+codes_same decoded kinds others numbers others' start stop otherwise long long' here there kinds_are numbers_are k l h =
+    facts_at decoded kinds numbers k 0 (pos 0) otherwise long (omega (arith, h, here))
+    ∙ ap (λ z. decoded z (get_or numbers k (pos 0))) (kinds_are.each k l h) ∙ ap (decoded (get_or others k 0)) (numbers_are.each k l h)
+    ∙ sym (facts_at decoded others others' k 0 (pos 0) otherwise long' (omega (arith, h, there)))

@@ -6,7 +6,7 @@ use Rattle.fix_solve.specs.Order.{IsLeastUpper}
 use Rattle.fix_solve.specs.Pointwise.{Pointwise, pointwise_antisym, pointwise_length, pointwise_refl, pointwise_trans}
 use Rattle.cond_flow.specs.Catching.{AgreeOff, AreOff, HasPassed, IsCaught}
 use Rattle.cond_flow.specs.Caught.{caught_all}
-use Rattle.cond_flow.specs.NewsShapes.{NewsShape, IsNotedIf, is_among}
+use Rattle.cond_flow.specs.NewsShapes.{NewsShape, IsNoted, IsNotedIf, IsPut, is_among}
 use Rattle.cond_flow.specs.PassingLaws.{below_at}
 use Rattle.cond_flow.specs.Raising.{IsRaised, IsRaisedTo, KeepsRaised}
 use Rattle.cond_flow.specs.Rules.{Rules, OrderRules, RisingRules, known_at}
@@ -50,6 +50,29 @@ among_more (y ∷ xs) x k off =
     let rest = among_more xs x k parts.1 in
     (ap (λ b. b || is_among xs k) parts.0 ∙ rest.0, rest.1)
 
+-- a variable that was put behind those that were raised is noted
+pub noted_put : (x : ℕ) (old new : NewsShape) → IsPut x old new → IsNoted x old new
+noted_put x old new more = record {
+  was = more.was;
+  raised = λ off k out. among_more old.raised x k (ap (λ l. is_among l k) (sym (more.raised off)) ∙ out);
+}
+
+-- and one that is among them already
+pub noted_again : (x : ℕ) (news : NewsShape) → is_among news.raised x ≡ true → IsNoted x news news
+noted_again x news there = record {
+  was = λ off. off;
+  raised = λ off k out. (
+    out,
+    elim (cases_Bool (nat_eq k x)) as (λ _. nat_eq k x ≡ false) [
+      | inl on ↦
+          let same : k ≡ x = eqb-true k x on in
+          let bad : true ≡ false = sym there ∙ ap (is_among news.raised) (sym same) ∙ out in
+          absurd (cc)
+      | inr off ↦ off
+    ],
+  );
+}
+
 module _ {K : Type 0} (rules : Rules K) where
   -- ---- what is news
 
@@ -80,7 +103,7 @@ module _ {K : Type 0} (rules : Rules K) where
         long = ap length set ∙ length-set ys x v ∙ before.long;
         was = λ off. before.was (n.was off);
         same = λ off k out.
-            let parts = among_more news'.raised x k (ap (λ l. is_among l k) (sym (n.raised off)) ∙ out) in
+            let parts = n.raised off k out in
             let so_far = before.same (n.was off) k parts.0 in
             (so_far.0, ap (λ l. known_at rules l k) set ∙ set_apart rules ys x v k parts.1 ∙ so_far.1);
       }

@@ -1,4 +1,5 @@
 pub mod FactLists
+pub mod Joining
 pub mod States
 pub mod Rules
 pub mod Passing

@@ -24,10 +24,16 @@ pub record IsNoneNew (news : NewsShape) : Type 0 where
   pub whole : news.whole ≡ false
   pub none : news.raised ≡ []
 
--- this variable was put among the news, or all is news now
-pub record IsNoted (x : ℕ) (old new : NewsShape) : Type 0 where
+-- this variable was put behind those that were raised, or all is news now
+pub record IsPut (x : ℕ) (old new : NewsShape) : Type 0 where
   pub was : new.whole ≡ false → old.whole ≡ false
   pub raised : new.whole ≡ false → new.raised ≡ old.raised ++ x ∷ []
+
+-- it is among the news now, with what was, or all is news
+pub record IsNoted (x : ℕ) (old new : NewsShape) : Type 0 where
+  pub was : new.whole ≡ false → old.whole ≡ false
+  pub raised : new.whole ≡ false → (k : ℕ) → is_among new.raised k ≡ false
+      → (is_among old.raised k ≡ false) × (nat_eq k x ≡ false)
 
 -- the same if it was raised, and else nothing
 pub record IsNotedIf (rose : Bool) (x : ℕ) (old new : NewsShape) : Type 0 where

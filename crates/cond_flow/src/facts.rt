@@ -1,11 +1,11 @@
 // What is known of each variable, as it is kept: in two lists, so that it takes little room and is joined in few steps.
-ghost use Rattle.std.specs.Prelude.{◌≡◌, ◌↔◌, ◌<◌, ◌≤◌, ℕ, ℤ, [], ◌∷◌, false, true, length, replicate, slice_index_or, slice_set, IfOk};
-ghost use Rattle.cond_flow.specs.FactLists.{JoinedCode, StaysCode, decoded_each};
+ghost use Rattle.std.specs.Prelude.{◌≡◌, ◌↔◌, ◌≤◌, ℕ, ℤ, [], false, true, length, replicate, slice_index_or, slice_set, IfOk};
+ghost use Rattle.cond_flow.specs.FactLists.{decoded_each};
 ghost use Rattle.cond_flow.specs.States.{joined_each};
-ghost use Rattle.cond_flow.specs.NewsShapes.{IsNotedIf};
 ghost use Rattle.cond_flow.specs.Raising.{IsRaised, KeepsRaised};
 
 use crate::Knowledge;
+use crate::code_joins::{join_lists, join_noted, raise_lists};
 use crate::news::StateNews;
 use mir_base::Memory;
 use smallvec::SmallVec;
@@ -201,20 +201,6 @@ impl<K: Knowledge> Facts<K> {
         ensures unchanged { (result ≡ false) ↔ (self.new ≡ self.old) }
         ensures keeps { KeepsRaised K.rules news.old self.old news.new self.new }
     {
-        if news.are_all() {
-            self.join_from(other)
-        } else {
-            self.join_listed(other, news)
-        }
-    }
-
-    /// The same where not all is news yet.
-    fn join_listed(&mut self, other: &Facts<K>, news: &mut StateNews) -> bool
-        requires { length other.now ≡ length self.old }
-        ensures joined { self.new ≡ joined_each K.rules.joined self.old other.now }
-        ensures unchanged { (result ≡ false) ↔ (self.new ≡ self.old) }
-        ensures keeps { KeepsRaised K.rules news.old self.old news.new self.new }
-    {
         join_noted::<K>(
             self.kinds.as_mut_slice(),
             self.numbers.as_mut_slice(),
@@ -288,7 +274,7 @@ fn fact_at<K: Coded>(kinds: &[u8], numbers: &[i64], x: usize, otherwise: K) -> K
 }
 
 /// Sets the kind and the number of a variable, if there is one of this number.
-fn put_code(kinds: &mut [u8], numbers: &mut [i64], x: usize, kind: u8, number: i64)
+pub(crate) fn put_code(kinds: &mut [u8], numbers: &mut [i64], x: usize, kind: u8, number: i64)
     requires { length numbers.old ≡ length kinds.old }
     ensures kinds { kinds.new ≡ slice_set kinds.old x kind }
     ensures numbers { numbers.new ≡ slice_set numbers.old x number }
@@ -297,239 +283,4 @@ fn put_code(kinds: &mut [u8], numbers: &mut [i64], x: usize, kind: u8, number: i
         kinds[x] = kind;
         numbers[x] = number;
     }
-}
-
-/// Turns what is known into what is known where two paths meet, and answers whether that changed.
-fn join_lists<K: Knowledge>(
-    kinds: &mut [u8],
-    numbers: &mut [i64],
-    other_kinds: &[u8],
-    other_numbers: &[i64],
-) -> bool
-    requires long { length numbers.old ≡ length kinds.old }
-    requires other { length other_kinds.now ≡ length kinds.old }
-    requires other_long { length other_numbers.now ≡ length kinds.old }
-    ensures long { length kinds.new ≡ length kinds.old }
-    ensures numbers_long { length numbers.new ≡ length numbers.old }
-    ensures joined { decoded_each K.decoded kinds.new numbers.new
-        ≡ joined_each K.rules.joined (decoded_each K.decoded kinds.old numbers.old)
-        (decoded_each K.decoded other_kinds.now other_numbers.now) }
-    ensures unchanged { (result ≡ false) ↔ (decoded_each K.decoded kinds.new numbers.new
-        ≡ decoded_each K.decoded kinds.old numbers.old) }
-{
-    let mut changed = false;
-    for i in 0..kinds.len() {
-        changed = changed | join_at::<K>(kinds, numbers, i, other_kinds[i], &other_numbers[i]);
-    }
-    changed
-}
-
-/// The same, and each variable of which more may be known then is put among the news.
-fn join_noted<K: Knowledge>(
-    kinds: &mut [u8],
-    numbers: &mut [i64],
-    other_kinds: &[u8],
-    other_numbers: &[i64],
-    news: &mut StateNews,
-) -> bool
-    requires long { length numbers.old ≡ length kinds.old }
-    requires other { length other_kinds.now ≡ length kinds.old }
-    requires other_long { length other_numbers.now ≡ length kinds.old }
-    ensures long { length kinds.new ≡ length kinds.old }
-    ensures numbers_long { length numbers.new ≡ length numbers.old }
-    ensures joined { decoded_each K.decoded kinds.new numbers.new
-        ≡ joined_each K.rules.joined (decoded_each K.decoded kinds.old numbers.old)
-        (decoded_each K.decoded other_kinds.now other_numbers.now) }
-    ensures unchanged { (result ≡ false) ↔ (decoded_each K.decoded kinds.new numbers.new
-        ≡ decoded_each K.decoded kinds.old numbers.old) }
-    ensures keeps { KeepsRaised K.rules news.old (decoded_each K.decoded kinds.old numbers.old)
-        news.new (decoded_each K.decoded kinds.new numbers.new) }
-{
-    let mut changed = false;
-    for i in 0..kinds.len() {
-        changed = changed
-            | join_one::<K>(kinds, numbers, i, other_kinds[i], &other_numbers[i], news);
-    }
-    changed
-}
-
-/// Joins what is known of these variables alone, if there are such, and puts each that was raised among the news.
-fn raise_lists<K: Knowledge>(
-    kinds: &mut [u8],
-    numbers: &mut [i64],
-    other_kinds: &[u8],
-    other_numbers: &[i64],
-    raised: &[usize],
-    news: &mut StateNews,
-) -> bool
-    requires long { length numbers.old ≡ length kinds.old }
-    requires other { length other_kinds.now ≡ length kinds.old }
-    requires other_long { length other_numbers.now ≡ length kinds.old }
-    ensures long { length kinds.new ≡ length kinds.old }
-    ensures numbers_long { length numbers.new ≡ length numbers.old }
-    ensures raised { IsRaised K.below K.rules raised.now
-        (decoded_each K.decoded other_kinds.now other_numbers.now)
-        (decoded_each K.decoded kinds.old numbers.old)
-        (decoded_each K.decoded kinds.new numbers.new) }
-    ensures unchanged { (result ≡ false) ↔ (decoded_each K.decoded kinds.new numbers.new
-        ≡ decoded_each K.decoded kinds.old numbers.old) }
-    ensures keeps { KeepsRaised K.rules news.old (decoded_each K.decoded kinds.old numbers.old)
-        news.new (decoded_each K.decoded kinds.new numbers.new) }
-{
-    let mut changed = false;
-    for i in 0..raised.len() {
-        changed = changed
-            | raise_at::<K>(kinds, numbers, other_kinds, other_numbers, raised[i], news);
-    }
-    changed
-}
-
-/// The same of one variable, if there is one of this number.
-fn raise_at<K: Knowledge>(
-    kinds: &mut [u8],
-    numbers: &mut [i64],
-    other_kinds: &[u8],
-    other_numbers: &[i64],
-    x: usize,
-    news: &mut StateNews,
-) -> bool
-    requires long { length numbers.old ≡ length kinds.old }
-    requires other { length other_kinds.now ≡ length kinds.old }
-    requires other_long { length other_numbers.now ≡ length kinds.old }
-    ensures long { length kinds.new ≡ length kinds.old }
-    ensures numbers_long { length numbers.new ≡ length numbers.old }
-    ensures raised { IsRaised K.below K.rules (x ∷ [])
-        (decoded_each K.decoded other_kinds.now other_numbers.now)
-        (decoded_each K.decoded kinds.old numbers.old)
-        (decoded_each K.decoded kinds.new numbers.new) }
-    ensures unchanged { (result ≡ false) ↔ (decoded_each K.decoded kinds.new numbers.new
-        ≡ decoded_each K.decoded kinds.old numbers.old) }
-    ensures keeps { KeepsRaised K.rules news.old (decoded_each K.decoded kinds.old numbers.old)
-        news.new (decoded_each K.decoded kinds.new numbers.new) }
-{
-    if x < kinds.len() {
-        join_one::<K>(kinds, numbers, x, other_kinds[x], &other_numbers[x], news)
-    } else {
-        false
-    }
-}
-
-/// Joins what is known of one variable, by its code, and puts it among the news if it was raised.
-fn join_one<K: Knowledge>(
-    kinds: &mut [u8],
-    numbers: &mut [i64],
-    i: usize,
-    kind: u8,
-    number: &i64,
-    news: &mut StateNews,
-) -> bool
-    requires there { i < length kinds.old }
-    requires long { length numbers.old ≡ length kinds.old }
-    ensures long { length kinds.new ≡ length kinds.old }
-    ensures numbers_long { length numbers.new ≡ length numbers.old }
-    ensures joined { JoinedCode K.rules K.decoded kinds.old numbers.old i kind number.now
-        (decoded_each K.decoded kinds.new numbers.new) }
-    ensures unchanged { (result ≡ false)
-        ↔ StaysCode K.rules K.decoded kinds.old numbers.old i kind number.now }
-    ensures noted { IsNotedIf result i news.old news.new }
-{
-    let raised = join_at::<K>(kinds, numbers, i, kind, number);
-    if raised {
-        news.note(i);
-    }
-    raised
-}
-
-/// Turns what is known of one variable into what is known where two paths meet, and answers whether that changed. Where
-/// the codes stand for the same it did not.
-fn join_at<K: Knowledge>(
-    kinds: &mut [u8],
-    numbers: &mut [i64],
-    i: usize,
-    kind: u8,
-    number: &i64,
-) -> bool
-    requires there { i < length kinds.old }
-    requires long { length numbers.old ≡ length kinds.old }
-    ensures long { length kinds.new ≡ length kinds.old }
-    ensures numbers_long { length numbers.new ≡ length numbers.old }
-    ensures joined { JoinedCode K.rules K.decoded kinds.old numbers.old i kind number.now
-        (decoded_each K.decoded kinds.new numbers.new) }
-    ensures unchanged { (result ≡ false)
-        ↔ StaysCode K.rules K.decoded kinds.old numbers.old i kind number.now }
-{
-    if is_code::<K>(kinds[i], &numbers[i], kind, number) {
-        false
-    } else {
-        join_other::<K>(kinds, numbers, i, kind, number)
-    }
-}
-
-/// The same where the codes may differ: by the kinds alone, if these tell it.
-fn join_other<K: Knowledge>(
-    kinds: &mut [u8],
-    numbers: &mut [i64],
-    i: usize,
-    kind: u8,
-    number: &i64,
-) -> bool
-    requires there { i < length kinds.old }
-    requires long { length numbers.old ≡ length kinds.old }
-    ensures long { length kinds.new ≡ length kinds.old }
-    ensures numbers_long { length numbers.new ≡ length numbers.old }
-    ensures joined { JoinedCode K.rules K.decoded kinds.old numbers.old i kind number.now
-        (decoded_each K.decoded kinds.new numbers.new) }
-    ensures unchanged { (result ≡ false)
-        ↔ StaysCode K.rules K.decoded kinds.old numbers.old i kind number.now }
-{
-    match K::joined_kind(kinds[i], kind) {
-        Some(met) => put_kind(kinds, i, met),
-        None => join_decoded::<K>(kinds, numbers, i, kind, number),
-    }
-}
-
-/// The same by what the codes stand for.
-fn join_decoded<K: Knowledge>(
-    kinds: &mut [u8],
-    numbers: &mut [i64],
-    i: usize,
-    kind: u8,
-    number: &i64,
-) -> bool
-    requires there { i < length kinds.old }
-    requires long { length numbers.old ≡ length kinds.old }
-    ensures long { length kinds.new ≡ length kinds.old }
-    ensures numbers_long { length numbers.new ≡ length numbers.old }
-    ensures joined { JoinedCode K.rules K.decoded kinds.old numbers.old i kind number.now
-        (decoded_each K.decoded kinds.new numbers.new) }
-    ensures unchanged { (result ≡ false)
-        ↔ StaysCode K.rules K.decoded kinds.old numbers.old i kind number.now }
-{
-    let before = K::of_code(kinds[i], &numbers[i]);
-    let after = before.joined(K::of_code(kind, number));
-    if after.is_same(before) {
-        false
-    } else {
-        put_code(kinds, numbers, i, after.kind(), after.number());
-        true
-    }
-}
-
-/// Sets the kind of a variable, and answers whether it changed.
-fn put_kind(kinds: &mut [u8], i: usize, kind: u8) -> bool
-    requires { i < length kinds.old }
-    ensures kinds { kinds.new ≡ slice_set kinds.old i kind }
-    ensures unchanged { (result ≡ false) ↔ (kind ≡ slice_index_or kinds.old i 0) }
-{
-    let before = kinds[i];
-    kinds[i] = kind;
-    before != kind
-}
-
-/// Whether it is seen by two codes that they stand for the same. It looks at numbers only where the kinds do not tell
-/// it.
-fn is_code<K: Coded>(kind: u8, number: &i64, other: u8, other_number: &i64) -> bool
-    ensures { result ≡ true → K.decoded kind number.now ≡ K.decoded other other_number.now }
-{
-    kind == other && (K::tells_all(kind) || *number == *other_number)
 }

@@ -8,6 +8,7 @@
 //! operators. `LeastStates::of` answers what it finds out first, and `before` what is known before a node.
 #![tactic(auto)]
 
+mod code_joins;
 mod facts;
 mod flow;
 mod handing;

@@ -1,6 +1,6 @@
 // What of the state of a block is news.
-ghost use Rattle.std.specs.Prelude.{◌≡◌};
-ghost use Rattle.cond_flow.specs.NewsShapes.{FitsAny, IsAllNew, IsNoneNew, IsNoted};
+ghost use Rattle.std.specs.Prelude.{◌≡◌, true};
+ghost use Rattle.cond_flow.specs.NewsShapes.{FitsAny, IsAllNew, IsNoneNew, IsNoted, IsPut, is_among};
 
 use fix_solve::News;
 use mir_base::Memory;
@@ -61,9 +61,19 @@ impl StateNews {
         self.raised.as_slice()
     }
 
-    /// Adds a variable that was raised; where there is no room for it, all becomes news. It does not allocate.
+    /// Adds a variable that was raised, if it is not the one that was added last. It does not allocate.
     pub(crate) fn note(&mut self, x: usize)
         ensures { IsNoted x self.old self.new }
+    {
+        if self.is_last(x) {
+            return;
+        }
+        self.put(x);
+    }
+
+    /// Adds a variable; where there is no room for it, all becomes news.
+    fn put(&mut self, x: usize)
+        ensures { IsPut x self.old self.new }
     {
         if self.whole {
             return;
@@ -71,6 +81,14 @@ impl StateNews {
         if self.raised.len() == self.raised.capacity() || self.raised.push(x).is_err() {
             self.renew();
         }
+    }
+
+    /// Whether a variable is the one that was added last.
+    fn is_last(&self, x: usize) -> bool
+        ensures { result ≡ true → is_among self.now.raised x ≡ true }
+    {
+        let count = self.raised.len();
+        count > 0 && self.raised[count - 1] == x
     }
 }
 

@@ -1,11 +1,36 @@
-use Rattle.cond_flow.proofs.Joins.{length_joined}
-use Rattle.cond_flow.proofs.RaisingLaws.{keeps_whole}
-use Rattle.std.proofs.Common.{ap, length, sym, ◌∙◌}
+use Rattle.std.proofs.Common.{length, ap, arith}
+use Rattle.cond_flow.proofs.FactLaws.{length_facts}
 use Rattle.cond_flow.proofs.facts.Facts.join_noting.Goals as goal
 
-pub returns-then-are_all-clause-keeps : goal.returns-then-are_all-clause-keeps
-returns-then-are_all-clause-keeps g c =
-    let r = g.K.Knowledge.rules in
-    keeps_whole r c.args.news.now c.args.self.now _
-    (ap length c.join_from.ensures.joined ∙ length_joined r.joined r.top c.args.self.now c.args.other.now (sym c.requires))
-    (sym c.are_all.ensures ∙ c.if-are_all.true)
+pub join_noted-requires-clause-other : goal.join_noted-requires-clause-other
+join_noted-requires-clause-other g c =
+    let i = c.self.inside in
+    let o = c.other.inside in
+    let d = g.K.Coded.decoded in
+    omega (
+      arith,
+      c.requires,
+      ap length c.as_mut_slice.ensures.value,
+      ap length c.as_slice.ensures,
+      length_facts d i.kinds.items i.numbers.items c.self.invariant,
+      ap length c.self.view_is,
+      length_facts d o.kinds.items o.numbers.items c.other.invariant,
+      ap length c.other.view_is,
+    )
+
+pub join_noted-requires-clause-other_long : goal.join_noted-requires-clause-other_long
+join_noted-requires-clause-other_long g c =
+    let i = c.self.inside in
+    let o = c.other.inside in
+    let d = g.K.Coded.decoded in
+    omega (
+      arith,
+      c.requires,
+      ap length c.as_mut_slice.ensures.value,
+      ap length c.as_slice-2.ensures,
+      length_facts d i.kinds.items i.numbers.items c.self.invariant,
+      ap length c.self.view_is,
+      length_facts d o.kinds.items o.numbers.items c.other.invariant,
+      ap length c.other.view_is,
+      c.other.invariant,
+    )

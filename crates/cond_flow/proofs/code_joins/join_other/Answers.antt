@@ -1,7 +1,7 @@
 use Rattle.std.proofs.Common.{◌∙◌, ap}
 use Rattle.cond_flow.specs.FactLists.{decoded_each}
 use Rattle.cond_flow.proofs.FactLaws.{kind_joins, kind_stays}
-use Rattle.cond_flow.proofs.facts.join_other.Goals as goal
+use Rattle.cond_flow.proofs.code_joins.join_other.Goals as goal
 
 pub returns-in-Some-clause-joined : goal.returns-in-Some-clause-joined
 returns-in-Some-clause-joined g c =

@@ -1,7 +1,7 @@
 use Rattle.std.proofs.Common.{◌≡◌, ◌↔◌, false, length}
 use Rattle.cond_flow.specs.FactLists.{decoded_each}
 use Rattle.cond_flow.specs.Raising.{IsRaisedTo, KeepsRaised}
-use Rattle.cond_flow.proofs.facts.raise_lists.Given as goal
+use Rattle.cond_flow.proofs.code_joins.raise_lists.Given as goal
 
 abbrev pub invariant-loop-i : goal.invariant-loop-i
 invariant-loop-i g l = record {

@@ -1,14 +1,15 @@
 use Rattle.std.proofs.Common.{◌∙◌, ◌+◌, ◌<◌, ◌||◌, length, get_or, pos, refl, sym, ap, subst, arith}
 use Rattle.cond_flow.specs.FactLists.{decoded_each}
-use Rattle.cond_flow.proofs.Joins.{JoinedTo, join_all, join_none, join_step, join_tells}
+use Rattle.cond_flow.proofs.Joins.{join_all, join_none, join_step, join_tells}
+use Rattle.cond_flow.specs.Joining.{JoinedBetween}
 use Rattle.cond_flow.proofs.FactLaws.{facts_at, length_facts}
-use Rattle.cond_flow.proofs.facts.join_lists.Goals as goal
+use Rattle.cond_flow.proofs.code_joins.join_lists.Goals as goal
 
 pub loop-i-init : goal.loop-i-init
 loop-i-init g c = record {
   long = refl;
   numbers_long = refl;
-  joined = join_none g.K.Knowledge.rules.joined g.K.Knowledge.rules.top _ _;
+  joined = join_none g.K.Knowledge.rules.joined g.K.Knowledge.rules.top _ _ 0;
 }
 
 pub loop-i-preserved : goal.loop-i-preserved
@@ -27,8 +28,8 @@ loop-i-preserved g c =
     record {
       long = c.join_at-changed.ensures.long ∙ c.loop-i.invariant.long;
       numbers_long = c.join_at-changed.ensures.numbers_long ∙ c.loop-i.invariant.numbers_long;
-      joined = subst (λ z. JoinedTo r.joined r.top (decoded_each d ks ns) (decoded_each d c.args.other_kinds.now c.args.other_numbers.now) z (c.loop-i.changed || c.join_at-changed.result) (i + 1)) (sym c.join_at-changed.ensures.joined)
-          (join_step r.joined r.top (decoded_each d ks ns) (decoded_each d c.args.other_kinds.now c.args.other_numbers.now) (decoded_each d c.loop-i.kinds c.loop-i.numbers) c.loop-i.changed i _ c.join_at-changed.result other c.loop-i.invariant.joined
+      joined = subst (λ z. JoinedBetween r.joined r.top (decoded_each d ks ns) (decoded_each d c.args.other_kinds.now c.args.other_numbers.now) z (c.loop-i.changed || c.join_at-changed.result) 0 (i + 1)) (sym c.join_at-changed.ensures.joined)
+          (join_step r.joined r.top (decoded_each d ks ns) (decoded_each d c.args.other_kinds.now c.args.other_numbers.now) (decoded_each d c.loop-i.kinds c.loop-i.numbers) c.loop-i.changed 0 i _ c.join_at-changed.result other c.loop-i.invariant.joined (omega arith)
           (omega (arith, lt, xs)) (omega (arith, xs, ys, c.requires.other))
           (ap (r.joined (get_or (decoded_each d c.loop-i.kinds c.loop-i.numbers) i other)) (sym there)) c.join_at-changed.ensures.unchanged);
     }

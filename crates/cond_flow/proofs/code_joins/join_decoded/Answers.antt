@@ -2,9 +2,9 @@ use Rattle.std.proofs.Common.{◌≡◌, ◌∙◌, true, false, pos, refl, sym,
 use Rattle.std.proofs.lemmas.List.{set-get_or}
 use Rattle.cond_flow.specs.FactLists.{decoded_each, joined_code}
 use Rattle.cond_flow.proofs.FactLaws.{facts_at, facts_set}
-use Rattle.cond_flow.proofs.facts.join_decoded.Goals as goal
-use Rattle.cond_flow.proofs.facts.join_decoded.Goals.{After-is_same}
-use Rattle.cond_flow.proofs.facts.join_decoded.Given.{Over}
+use Rattle.cond_flow.proofs.code_joins.join_decoded.Goals as goal
+use Rattle.cond_flow.proofs.code_joins.join_decoded.Goals.{After-is_same}
+use Rattle.cond_flow.proofs.code_joins.join_decoded.Given.{Over}
 
 -- what the code stands for, by what is read
 other_is : (g : Over) (c : After-is_same g) → c.of_code.result ≡ g.K.Coded.decoded c.args.kind c.args.number.now

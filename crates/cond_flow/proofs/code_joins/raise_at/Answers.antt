@@ -2,7 +2,7 @@ use Rattle.std.proofs.Common.{get_or, pos, refl, sym, ◌∙◌, arith}
 use Rattle.cond_flow.specs.FactLists.{decoded_each}
 use Rattle.cond_flow.proofs.FactLaws.{facts_at, length_facts}
 use Rattle.cond_flow.proofs.RaisingLaws.{keeps_more, keeps_none, raise_absent, raise_joined, stays_where, tells_joined}
-use Rattle.cond_flow.proofs.facts.raise_at.Goals as goal
+use Rattle.cond_flow.proofs.code_joins.raise_at.Goals as goal
 
 pub returns-then-x-kinds-clause-raised : goal.returns-then-x-kinds-clause-raised
 returns-then-x-kinds-clause-raised g c =

@@ -3,7 +3,7 @@ use Rattle.std.proofs.lemmas.Option.{slice_get-get_or}
 use Rattle.cond_flow.specs.FactLists.{decoded_each}
 use Rattle.cond_flow.specs.Raising.{IsRaisedTo}
 use Rattle.cond_flow.proofs.RaisingLaws.{keeps_none, keeps_then, raise_none, raise_then, tells_then}
-use Rattle.cond_flow.proofs.facts.raise_lists.Goals as goal
+use Rattle.cond_flow.proofs.code_joins.raise_lists.Goals as goal
 
 pub loop-i-init : goal.loop-i-init
 loop-i-init g c = record {

@@ -2,7 +2,7 @@ use Rattle.std.proofs.Common.{◌≡◌, ◌∙◌, pos, refl, sym, ap, slice_in
 use Rattle.std.proofs.lemmas.List.{set-get_or}
 use Rattle.cond_flow.specs.FactLists.{decoded_each}
 use Rattle.cond_flow.proofs.FactLaws.{facts_at, joined_self}
-use Rattle.cond_flow.proofs.facts.join_at.Goals as goal
+use Rattle.cond_flow.proofs.code_joins.join_at.Goals as goal
 
 pub returns-then-is_code-clause-joined : goal.returns-then-is_code-clause-joined
 returns-then-is_code-clause-joined g c =
