@@ -1,6 +1,6 @@
 -- The fact of a result by the facts of the operands: the ends between which the value of the operator lies, rounded to
 -- ends that intervals have. Cited by contracts.
-use Rattle.std.specs.Prelude.{ℕ, suc, min, ◌^◌, ◌*◌, ◌/◌, Bool, if◌then◌else◌, not, ◌&&◌, ℤ, pos, negsuc, ◌+ℤ◌, ◌-ℤ◌, neg_ℤ, int_lt, int_le, ◌≤ℤ◌}
+use Rattle.std.specs.Prelude.{ℕ, suc, min, max, ◌^◌, ◌*◌, ◌/◌, Bool, if◌then◌else◌, not, ◌&&◌, ◌||◌, ℤ, pos, negsuc, ◌+ℤ◌, ◌-ℤ◌, neg_ℤ, int_lt, int_le, ◌≤ℤ◌}
 use Rattle.std.specs.Int.{int_div_euclid, int_min, int_max}
 use Rattle.mir_base.specs.declared.operators.Op.{Op}
 use Rattle.mir_base.specs.declared.operators.Op.TheVariants.{Add, Sub, Mul, Div, Mod, Min, Max, Eq, Ne, Lt, Le, Gt, Ge, Shl, Shr, Shra, And, Or, Xor}
@@ -106,11 +106,19 @@ span_mul s t =
     if is_natural t then scaled s (natural t.high)
     else if is_natural s then scaled t (natural s.high) else all
 
--- quotients of natural numbers
+-- the span divided by at least n
+abbrev pub divided : Span → ℕ → Span
+divided s n = span (neg_ℤ (pos (depth s.low / n))) (pos (natural s.high / n))
+
+-- how far its numbers are from 0 at most
+abbrev pub size : Span → ℕ
+size s = max (depth s.low) (natural s.high)
+
+-- quotients: they are no further from 0 than the dividend, and have its sign where no divisor is negative
 abbrev pub span_div : Span → Span → Span
 span_div s t =
-    if is_natural s && is_positive t then span (pos 0) (pos (natural s.high / natural t.low))
-    else all
+    if is_natural t then divided s (natural (int_max t.low (pos 1)))
+    else span (neg_ℤ (pos (size s))) (pos (size s))
 
 -- remainders
 abbrev pub span_mod : Span → Span → Span
@@ -142,17 +150,48 @@ span_shra_by s k =
 abbrev pub span_shra : Span → Span → Span
 span_shra s t = if are_distances t then span_shra_by s (first_distance t) else span_shra_by s 0
 
--- the span of `and`: from 0 to an operand that is not negative, or to the lesser of two such
+-- all numbers of the span are negative
+abbrev pub is_negative : Span → Bool
+is_negative s = int_lt s.high (pos 0)
+
+-- how far its numbers reach up from 0, or down from -1
+abbrev pub reach : Span → ℤ
+reach s = int_max (pos (natural s.high)) (negsuc 0 -ℤ s.low)
+
+-- the number of ones that operators bit by bit do not leave: they keep what lies from its complement to it
+abbrev pub ones : Span → Span → ℤ
+ones s t = end_value (ceiling (int_max (reach s) (reach t)))
+
+-- the span of `and`: from 0 to an operand that is not negative, or to the lesser of two such; else at most the greater
 abbrev pub span_and : Span → Span → Span
 span_and s t =
     if is_natural s then span (pos 0) (if is_natural t then int_min s.high t.high else s.high)
-    else if is_natural t then span (pos 0) t.high else all
+    else if is_natural t then span (pos 0) t.high
+    else span (negsuc 0 -ℤ ones s t) (int_max s.high t.high)
 
--- `or` and `xor` of natural numbers: all bits below the length of the greater are 1
+-- all numbers of one of both are negative
+abbrev pub has_negative : Span → Span → Bool
+has_negative s t = is_negative s || is_negative t
+
+-- `or`: at least the lesser operand, and negative with one that is; all bits below the length of the greater are 1
 abbrev pub span_or : Span → Span → Span
 span_or s t =
-    if is_natural s && is_natural t then span (pos 0) (end_value (ceiling (int_max s.high t.high)))
-    else all
+    span (int_min s.low t.low)
+    (if has_negative s t then negsuc 0 else end_value (ceiling (int_max s.high t.high)))
+
+-- the signs of all numbers of both are alike
+abbrev pub are_alike : Span → Span → Bool
+are_alike s t = (is_natural s && is_natural t) || (is_negative s && is_negative t)
+
+-- the sign of each of the first differs from that of each of the second
+abbrev pub are_unlike : Span → Span → Bool
+are_unlike s t = (is_natural s && is_negative t) || (is_negative s && is_natural t)
+
+-- `xor`: not negative where the signs are alike, and negative where they differ
+abbrev pub span_xor : Span → Span → Span
+span_xor s t =
+    span (if are_alike s t then pos 0 else negsuc 0 -ℤ ones s t)
+    (if are_unlike s t then negsuc 0 else ones s t)
 
 -- the numbers of both are one
 abbrev pub are_one : Span → Span → Bool
@@ -190,7 +229,7 @@ span_op Shr s t = span_shr s t
 span_op Shra s t = span_shra s t
 span_op And s t = span_and s t
 span_op Or s t = span_or s t
-span_op Xor s t = span_or s t
+span_op Xor s t = span_xor s t
 
 -- where the value of an operator on one number lies
 abbrev pub span_un_op : UnOp → Span → Span

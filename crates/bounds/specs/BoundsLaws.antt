@@ -12,8 +12,8 @@ use Rattle.bounds.specs.declared.facts.Fact.{Fact}
 use Rattle.bounds.specs.declared.facts.Fact.TheVariants.{Never, Fixed, Between}
 use Rattle.bounds.specs.Facts.{BelowFact, Bounds}
 use Rattle.bounds.specs.FactLaws.{below_refl}
-use Rattle.bounds.specs.EndLaws.{fits_high, high_fits, below_low, below_high, bounds_mono as holds_mono}
-use Rattle.bounds.specs.Bounding.{In, Within, span_of, span_op, span_un_op, rounded, bounds_of, bounds_of_un}
+use Rattle.bounds.specs.EndLaws.{fits_high, fits_low, high_fits, low_fits, below_low, below_high, bounds_mono as holds_mono}
+use Rattle.bounds.specs.Bounding.{In, IsInWord, IsWordSpan, Within, span_of, span_op, span_un_op, rounded, bounds_of, bounds_of_un}
 use Rattle.bounds.specs.RoundingLaws.{rounded_holds, rounded_mono, rounded_below}
 use Rattle.bounds.specs.SpanMono.{span_mono, span_un_mono}
 use Rattle.bounds.specs.SpanHolds.{span_holds, span_un_holds}
@@ -40,6 +40,13 @@ itself z fits =
 held_never : {A : Type 0} (a : ℤ) → Bounds Never a → A
 held_never a h = absurd (omega (arith, ints, h.low, h.high))
 
+-- the ends of facts have 64 bits
+ends_fit : (x : Fact) → IsWordSpan (span_of x)
+ends_fit x = record { low = in_word _ (low_fits x); high = in_word _ (high_fits x) }
+  where
+    in_word : (z : ℤ) → FitsSigned w64 z → IsInWord z
+    in_word z fits = record { low = fits_low z fits; high = fits_high z fits }
+
 -- ---- what holds
 
 -- of the rounded span
@@ -47,7 +54,7 @@ spanned_holds : (op : Op) (x y : Fact) (a b : ℤ) → FitsSigned w64 a → Fits
     → Bounds (rounded (span_op op (span_of x) (span_of y))) (value_of_op op a b)
 spanned_holds op x y a b f g p q =
     rounded_holds _ _ (op_fits op a b f g)
-    (span_holds op (span_of x) (span_of y) a b (fits_high _ (high_fits x)) (fits_high _ (high_fits y)) f g (in_span x a p) (in_span y b q))
+    (span_holds op (span_of x) (span_of y) a b (ends_fit x) (ends_fit y) f g (in_span x a p) (in_span y b q))
 
 -- of the fact of a result
 pub bounds_hold : (op : Op) (x y : Fact) (a b : ℤ) → FitsSigned w64 a → FitsSigned w64 b → Bounds x a → Bounds y b
@@ -83,7 +90,7 @@ bounds_un_hold op (Between e h) a f p =
 spanned_mono : (op : Op) (x x' y y' : Fact) → BelowFact x x' → BelowFact y y'
     → BelowFact (rounded (span_op op (span_of x) (span_of y))) (rounded (span_op op (span_of x') (span_of y')))
 spanned_mono op x x' y y' p q =
-    rounded_mono _ _ (span_mono op _ _ _ _ (fits_high _ (high_fits x')) (fits_high _ (high_fits y')) (within x x' p) (within y y' q))
+    rounded_mono _ _ (span_mono op _ _ _ _ (ends_fit x') (ends_fit y') (within x x' p) (within y y' q))
 
 -- a constant result is below each rounded span
 fixed_mono : (op : Op) (a b : ℤ) (x' y' : Fact) → BelowFact (Fixed a) x' → BelowFact (Fixed b) y'

@@ -16,4 +16,5 @@ pub mod NonemptyLaws
 pub mod BoundRules
 pub mod ReadingLaws
 pub mod BoundRuleLaws
+pub mod Complements
 pub mod Coding

@@ -1,10 +1,10 @@
 -- The value of an operator lies in its span. For proofs only.
-use Rattle.std.proofs.Common.{◌≡◌, ℕ, suc, ◌*◌, ◌/◌, ◌%◌, ◌^◌, ◌<◌, ◌≤◌, Bool, true, false, if◌then◌else◌, not, refl, sym, subst, arith, mod-eq_of_lt, ℤ, pos, negsuc, ◌+ℤ◌, ◌-ℤ◌, ◌*ℤ◌, int_le, int_lt, int_div, int_rem, unsigned_abs, bit_and, bit_or, bit_xor, FitsSigned, w64}
+use Rattle.std.proofs.Common.{◌≡◌, ℕ, zero, suc, ◌*◌, ◌/◌, ◌%◌, ◌^◌, ◌<◌, ◌≤◌, ◌-◌, Bool, true, false, if◌then◌else◌, not, ◌||◌, refl, sym, ap, ◌∙◌, subst, arith, mod-eq_of_lt, ℤ, pos, negsuc, ◌+ℤ◌, ◌-ℤ◌, ◌*ℤ◌, neg_ℤ, int_le, int_lt, int_div, int_rem, unsigned_abs, bit_and, bit_or, bit_xor, FitsSigned, w64}
 use Rattle.std.specs.Ordering.{int_eq}
 use Rattle.std.proofs.lemmas.Int.{ints, clamps, int_wrap_fits}
-use Rattle.std.proofs.lemmas.Nat.{mul-le, shr_le, and_le_l, and_le_r, or_lt, xor_lt, mod_below}
+use Rattle.std.proofs.lemmas.Nat.{mul-le, shr_le, and_le_l, and_le_r, le_or_l, le_or_r, or_lt, xor_lt, xor_comm, mod_below}
 use Rattle.std.proofs.Math.IntN.{*ℤ_comm}
-use Rattle.std.proofs.Math.Nat.{mod-le}
+use Rattle.std.proofs.Math.Nat.{div-le_self, mod-le}
 use Rattle.std.proofs.Math.Pow.{pow_pos}
 use Rattle.std.specs.Int.{int_min, int_max, int_div_euclid}
 use Rattle.std.specs.Prelude.{◌≤ℤ◌}
@@ -19,9 +19,10 @@ use Rattle.bounds.specs.declared.ends.End.TheVariants.{Least, Min32, Min16, Min8
 use Rattle.bounds.specs.Ends.{end_value, ceiling}
 use Rattle.bounds.specs.EndLaws.{le_is, is_le, both_left, both_right, ceiling_high}
 use Rattle.bounds.specs.declared.spans.Span.{Span}
-use Rattle.bounds.specs.Bounding.{In, span, all, is_natural, is_positive, natural, are_distances, shifted_all, span_mul, span_div, span_mod, span_shl, span_shr, span_shra_by, span_shra, first_distance, depth, scaled, span_and, span_or, are_one, may_equal, span_lt, span_le, span_op, span_un_op}
+use Rattle.bounds.specs.Bounding.{In, span, all, is_natural, is_positive, natural, are_distances, shifted_all, span_mul, span_div, divided, size, is_negative, has_negative, reach, ones, are_alike, are_unlike, span_xor, IsWordSpan, span_mod, span_shl, span_shr, span_shra_by, span_shra, first_distance, depth, scaled, span_and, span_or, are_one, may_equal, span_lt, span_le, span_op, span_un_op}
 use Rattle.bounds.specs.RoundingLaws.{InIfFits, both_true, le_trans, fits_from}
-use Rattle.bounds.specs.SpanMono.{shra_by_mono, natural_mono, pos_mono, positive_is, div_mono, power_mono}
+use Rattle.bounds.specs.Complements.{far, far_low, unsigned_negative, read_negative, xor_complement, xor_complements, and_complements}
+use Rattle.bounds.specs.SpanMono.{shra_by_mono, natural_mono, pos_mono, positive_is, div_mono, power_mono, neg_mono, ones_above, not_negative, lt_stays}
 
 -- ---- where rules apply
 
@@ -33,17 +34,25 @@ stands s z h = record { in_span = λ p q. h }
 all_holds : (z : ℤ) → InIfFits all z
 all_holds z = record { in_span = λ p q. absurd (omega (arith, ints, p)) }
 
--- a rule that applies
-guard : (b : Bool) (s : Span) (z : ℤ) → (b ≡ true → InIfFits s z) → InIfFits (if b then s else all) z
-guard true s z h = h refl
-guard false s z h = all_holds z
+-- two rules, and what is said where neither applies
+guard_three : (b c : Bool) (s t u : Span) (z : ℤ) → (b ≡ true → InIfFits s z) → (c ≡ true → InIfFits t z)
+    → (b ≡ false → c ≡ false → InIfFits u z) → InIfFits (if b then s else if c then t else u) z
+guard_three true c s t u z h k rest = h refl
+guard_three false true s t u z h k rest = k refl
+guard_three false false s t u z h k rest = rest refl refl
 
--- two rules
+-- two rules, and nothing is said where neither applies
 guard_two : (b c : Bool) (s t : Span) (z : ℤ) → (b ≡ true → InIfFits s z) → (c ≡ true → InIfFits t z)
     → InIfFits (if b then s else if c then t else all) z
-guard_two true c s t z h k = h refl
-guard_two false true s t z h k = k refl
-guard_two false false s t z h k = all_holds z
+guard_two b c s t z h k = guard_three b c s t all z h k (λ p q. all_holds z)
+
+-- one rule, and what is said where it does not apply
+guard_else : (b : Bool) (s u : Span) (z : ℤ) → (b ≡ true → InIfFits s z) → InIfFits u z → InIfFits (if b then s else u) z
+guard_else b s u z h rest = guard_three b true s u u z h (λ k. rest) (λ p q. rest)
+
+-- one rule, and nothing is said where it does not apply
+guard : (b : Bool) (s : Span) (z : ℤ) → (b ≡ true → InIfFits s z) → InIfFits (if b then s else all) z
+guard b s z h = guard_else b s all z h (all_holds z)
 
 -- ---- numbers
 
@@ -72,6 +81,14 @@ natural_high s n h = natural_mono _ _ h.high
 not_natural : {A : Type 0} (s : Span) (n : ℕ) → In s (negsuc n) → is_natural s ≡ true → A
 not_natural s n h is = let low : pos 0 ≤ℤ s.low = le_is _ _ is in absurd (omega (arith, ints, low, h.low))
 
+-- a negative number is no further below 0 than the low end
+low_depth : (s : Span) (n : ℕ) → In s (negsuc n) → suc n ≤ depth s.low
+low_depth s n h = is_deep s.low h.low
+  where
+    is_deep : (z : ℤ) → z ≤ℤ negsuc n → suc n ≤ depth z
+    is_deep (pos m) le = absurd (omega (arith, ints, le))
+    is_deep (negsuc m) le = omega (arith, ints, le)
+
 -- ---- each operator
 
 -- multiples by at most n
@@ -81,13 +98,8 @@ scaled_holds s (pos a) m n v le = record {
   high = pos_mono _ _ (mul-le _ _ _ _ (natural_high s a v) le);
 }
 scaled_holds s (negsuc a) m n v le =
-    let deep : suc a ≤ depth s.low = is_deep s.low v.low in
-    let product : suc a * m ≤ depth s.low * n = mul-le _ _ _ _ deep le in
+    let product : suc a * m ≤ depth s.low * n = mul-le _ _ _ _ (low_depth s a v) le in
     record { low = omega (arith, ints, product); high = omega (arith, ints) }
-  where
-    is_deep : (z : ℤ) → z ≤ℤ negsuc a → suc a ≤ depth z
-    is_deep (pos n) le = absurd (omega (arith, ints, le))
-    is_deep (negsuc n) le = omega (arith, ints, le)
 
 -- products by a natural span
 by_natural : (s t : Span) (a b : ℤ) → In s a → In t b → is_natural t ≡ true
@@ -101,20 +113,44 @@ mul_holds s t a b v w =
     guard_two _ _ _ _ _ (by_natural s t a b v w)
     (λ k. subst (λ z. InIfFits (scaled t (natural s.high)) (wrapped z)) (*ℤ_comm b a) (by_natural t s b a w v k))
 
--- a positive span has no negative number
-not_positive : {A : Type 0} (s : Span) (n : ℕ) → In s (negsuc n) → is_positive s ≡ true → A
-not_positive s n h is = let low : pos 1 ≤ℤ s.low = le_is _ _ is in absurd (omega (arith, ints, low, h.low))
+-- quotients by at least so much
+divided_holds : (s : Span) (a : ℤ) (b n : ℕ) → In s a → n ≤ b → 0 < n → In (divided s n) (int_div a (pos b))
+divided_holds s (pos a) b n v le some = record {
+  low = omega (arith, ints);
+  high = pos_mono _ _ (div_mono _ _ _ _ (natural_high s a v) le some);
+}
+divided_holds s (negsuc a) b n v le some = record {
+  low = neg_mono _ _ (div_mono _ _ _ _ (low_depth s a v) le some);
+  high = omega (arith, ints);
+}
+
+-- a quotient is no further from 0 than its dividend
+size_holds : (s : Span) (a b : ℤ) → In s a
+    → In (span (neg_ℤ (pos (size s))) (pos (size s))) (int_div a b)
+size_holds s (pos a) (pos b) v =
+    record { low = omega (arith, ints); high = omega (arith, ints, natural_high s a v, div-le_self a b) }
+size_holds s (pos a) (negsuc b) v =
+    record { low = omega (arith, ints, natural_high s a v, div-le_self a (suc b)); high = omega (arith, ints) }
+size_holds s (negsuc a) (pos b) v =
+    record { low = omega (arith, ints, low_depth s a v, div-le_self (suc a) b); high = omega (arith, ints) }
+size_holds s (negsuc a) (negsuc b) v =
+    record { low = omega (arith, ints); high = omega (arith, ints, low_depth s a v, div-le_self (suc a) (suc b)) }
 
 -- quotients
 div_holds : (s t : Span) (a b : ℤ) → In s a → In t b → InIfFits (span_div s t) (wrapped (int_div a b))
-div_holds s t (pos a) (pos b) v w =
-    guard _ _ _ (λ h. exact _ _ (record {
-      low = omega (arith, ints);
-      high = pos_mono _ _ (div_mono _ _ _ _ (natural_high s a v) (natural_low t b w)
-          (positive_is t.low (le_is _ _ (both_right (is_natural s) (is_positive t) h))));
-    }))
-div_holds s t (negsuc a) b v w = guard _ _ _ (λ h. not_natural s a v (both_left _ (is_positive t) h))
-div_holds s t (pos a) (negsuc b) v w = guard _ _ _ (λ h. not_positive t b w (both_right (is_natural s) _ h))
+div_holds s t a b v w = guard_else _ _ _ _ (λ h. by_natural_divisor b w h) (exact _ _ (size_holds s a b v))
+  where
+    by_nothing : (a : ℤ) → In s a → In (divided s (natural (int_max t.low (pos 1)))) (int_div a (pos 0))
+    by_nothing (pos a) v = record { low = omega (arith, ints); high = omega (arith, ints) }
+    by_nothing (negsuc a) v = record { low = omega (arith, ints); high = omega (arith, ints) }
+
+    by_natural_divisor : (b : ℤ) → In t b → is_natural t ≡ true
+        → InIfFits (divided s (natural (int_max t.low (pos 1)))) (wrapped (int_div a b))
+    by_natural_divisor (pos zero) w h = exact _ _ (by_nothing a v)
+    by_natural_divisor (pos (suc b)) w h =
+        let low : int_max t.low (pos 1) ≤ℤ pos (suc b) = omega (arith, ints, clamps, w.low) in
+        exact _ _ (divided_holds s a (suc b) _ v (natural_mono _ _ low) (positive_is (int_max t.low (pos 1)) (omega (arith, ints, clamps))))
+    by_natural_divisor (negsuc b) w h = not_natural t b w h
 
 -- the high end of a remainder of a natural number
 rem_high : (c : Bool) (h k : ℤ) (a : ℕ) (b : ℤ) → pos a ≤ℤ h → (c ≡ true → (pos 1 ≤ℤ b) × (b ≤ℤ k))
@@ -230,35 +266,7 @@ shra_holds s t a b v w = cases _ refl
     cases true is = shra_by_holds s a (distance b) (first_distance t) v (first_is t b w is)
     cases false is = shra_by_holds s a (distance b) 0 v (omega arith)
 
--- the lesser high end where both are natural
-and_high : (c : Bool) (h k : ℤ) (n : ℕ) → pos n ≤ℤ h → (c ≡ true → pos n ≤ℤ k) → pos n ≤ℤ (if c then int_min h k else h)
-and_high true h k n p q = omega (arith, ints, clamps, p, q refl)
-and_high false h k n p q = p
-
--- `and`
-and_holds : (s t : Span) (a b : ℤ) → FitsSigned w64 a → FitsSigned w64 b → In s a → In t b
-    → InIfFits (span_and s t) (wrapped (pos (bit_and (unsigned a) (unsigned b))))
-and_holds s t a b fit_a fit_b v w =
-    guard_two _ _ _ _ _
-    (λ h. exact _ _ (record {
-      low = omega (arith, ints);
-      high = and_high _ _ _ _ (at_left a fit_a v h) (at_right b fit_b w);
-    }))
-    (λ k. exact _ _ (record { low = omega (arith, ints); high = at_right b fit_b w k }))
-  where
-    at_left : (a : ℤ) → FitsSigned w64 a → In s a → is_natural s ≡ true
-        → pos (bit_and (unsigned a) (unsigned b)) ≤ℤ s.high
-    at_left (pos a) fit v h =
-        let e : unsigned (pos a) ≡ a = unsigned_is a fit in
-        omega (arith, ints, e, and_le_l (unsigned (pos a)) (unsigned b), v.high)
-    at_left (negsuc a) fit v h = not_natural s a v h
-
-    at_right : (b : ℤ) → FitsSigned w64 b → In t b → is_natural t ≡ true
-        → pos (bit_and (unsigned a) (unsigned b)) ≤ℤ t.high
-    at_right (pos b) fit w h =
-        let e : unsigned (pos b) ≡ b = unsigned_is b fit in
-        omega (arith, ints, e, and_le_r (unsigned a) (unsigned (pos b)), w.high)
-    at_right (negsuc b) fit w h = not_natural t b w h
+-- ---- operators bit by bit
 
 -- a natural end has ones alone: one more than it is a power of two
 pub ones_end : (e : End) → pos 0 ≤ℤ end_value e → (k : ℕ) × (end_value e +ℤ pos 1 ≡ pos (2 ^ k))
@@ -287,27 +295,199 @@ below_end f a b e keeps p q =
     let right : b < 2 ^ ones.0 = omega (arith, ints, q, ones.1) in
     omega (arith, ints, ones.1, keeps ones.0 a b left right)
 
--- `or` and `xor`
-or_holds : (f : ℕ → ℕ → ℕ) (s t : Span) (a b : ℤ) → ((k a b : ℕ) → a < 2 ^ k → b < 2 ^ k → f a b < 2 ^ k)
-    → s.high ≤ℤ end_value Greatest → t.high ≤ℤ end_value Greatest
-    → FitsSigned w64 a → FitsSigned w64 b → In s a → In t b
-    → InIfFits (span_or s t) (wrapped (pos (f (unsigned a) (unsigned b))))
-or_holds f s t (pos a) (pos b) keeps small small' fit_a fit_b v w =
-    let same : unsigned (pos a) ≡ a = unsigned_is a fit_a in
-    let same' : unsigned (pos b) ≡ b = unsigned_is b fit_b in
-    let near : int_max s.high t.high ≤ℤ end_value (ceiling (int_max s.high t.high)) = ceiling_high _
-    (omega (arith, ints, clamps, small, small')) in
+-- `or` has 64 bits
+or_small : (a b : ℤ) → bit_or (unsigned a) (unsigned b) < 2 ^ 64
+or_small a b = or_lt 64 (unsigned a) (unsigned b) (omega (arith, unsigned_small a)) (omega (arith, unsigned_small b))
+
+-- no number is further than its span reaches
+far_in : (s : Span) (a : ℤ) → In s a → pos (far a) ≤ℤ reach s
+far_in s (pos n) v = omega (arith, ints, clamps, natural_high s n v)
+far_in s (negsuc n) v = omega (arith, ints, clamps, v.low)
+
+-- so what keeps numbers below powers of two keeps them at most the number of ones
+below_ones : (f : ℕ → ℕ → ℕ) (s t : Span) (a b : ℤ) → ((k a b : ℕ) → a < 2 ^ k → b < 2 ^ k → f a b < 2 ^ k)
+    → IsWordSpan s → IsWordSpan t → In s a → In t b → pos (f (far a) (far b)) ≤ℤ ones s t
+below_ones f s t a b keeps p q v w =
+    below_end f (far a) (far b) (ceiling (int_max (reach s) (reach t))) keeps
+    (le_trans _ _ _ (far_in s a v) (ones_above s t p q).0) (le_trans _ _ _ (far_in t b w) (ones_above s t p q).1)
+
+-- a number at least what is said where it is not known to be natural
+natural_or : (c : Bool) (l z : ℤ) → (c ≡ true → pos 0 ≤ℤ z) → l ≤ℤ z → (if c then pos 0 else l) ≤ℤ z
+natural_or true l z p q = p refl
+natural_or false l z p q = q
+
+-- at most what is said where it is not known to be negative
+negative_or : (c : Bool) (z h : ℤ) → (c ≡ true → z ≤ℤ negsuc 0) → (c ≡ false → z ≤ℤ h) → z ≤ℤ (if c then negsuc 0 else h)
+negative_or true z h p q = p refl
+negative_or false z h p q = q refl
+
+-- no natural number is in a negative span
+not_below : {A : Type 0} (s : Span) (n : ℕ) → In s (pos n) → is_negative s ≡ true → A
+not_below s n v h =
+    let bad : int_lt (pos 0) (pos 0) ≡ true = lt_stays (pos 0) s.high (pos 0) (pos 0)
+    (le_trans (pos 0) (pos n) s.high (omega (arith, ints)) v.high) (omega (arith, ints)) h in
+    absurd (cc)
+
+-- what follows from each of two tests follows from one of them
+from_either : {A : Type 0} (b c : Bool) → (b ≡ true → A) → (c ≡ true → A) → (b || c) ≡ true → A
+from_either true c f g h = f refl
+from_either false c f g h = g h
+
+-- the lesser high end where both are natural
+and_high : (c : Bool) (h k : ℤ) (n : ℕ) → pos n ≤ℤ h → (c ≡ true → pos n ≤ℤ k) → pos n ≤ℤ (if c then int_min h k else h)
+and_high true h k n p q = omega (arith, ints, clamps, p, q refl)
+and_high false h k n p q = p
+
+-- `and` of spans that may be negative
+and_wide : (s t : Span) (a b : ℤ) → IsWordSpan s → IsWordSpan t → FitsSigned w64 a → FitsSigned w64 b → In s a → In t b
+    → InIfFits (span (negsuc 0 -ℤ ones s t) (int_max s.high t.high)) (wrapped (pos (bit_and (unsigned a) (unsigned b))))
+and_wide s t (pos a) b p q f g v w =
+    let some : pos 0 ≤ℤ ones s t = le_trans _ _ _ (omega (arith, ints)) (below_ones bit_or s t (pos a) b or_lt p q v w) in
+    exact _ _ (record {
+      low = omega (arith, ints, some);
+      high = omega (arith, ints, clamps, unsigned_is a f, and_le_l (unsigned (pos a)) (unsigned b), v.high);
+    })
+and_wide s t (negsuc a) (pos b) p q f g v w =
+    let some : pos 0 ≤ℤ ones s t = le_trans _ _ _ (omega (arith, ints)) (below_ones bit_or s t (negsuc a) (pos b) or_lt p q v w) in
+    exact _ _ (record {
+      low = omega (arith, ints, some);
+      high = omega (arith, ints, clamps, unsigned_is b g, and_le_r (unsigned (negsuc a)) (unsigned (pos b)), w.high);
+    })
+and_wide s t (negsuc a) (negsuc b) p q f g v w =
+    let low : a < 2 ^ 63 = far_low (negsuc a) f in
+    let low' : b < 2 ^ 63 = far_low (negsuc b) g in
+    let bits : bit_and (unsigned (negsuc a)) (unsigned (negsuc b)) ≡ 18446744073709551615 - bit_or a b =
+    ap (λ n. bit_and n (unsigned (negsuc b))) (unsigned_negative a f)
+    ∙ ap (λ n. bit_and (18446744073709551615 - a) n) (unsigned_negative b g)
+    ∙ and_complements a b (omega (arith, low)) (omega (arith, low')) in
+    subst (InIfFits _) (sym (read_negative (bit_or a b) _ (or_lt 63 a b low low') bits)) (stands _ _ (record {
+      low = omega (arith, ints, below_ones bit_or s t (negsuc a) (negsuc b) or_lt p q v w);
+      high = omega (arith, ints, clamps, le_or_l a b, v.high);
+    }))
+
+-- `and`
+and_holds : (s t : Span) (a b : ℤ) → IsWordSpan s → IsWordSpan t → FitsSigned w64 a → FitsSigned w64 b → In s a → In t b
+    → InIfFits (span_and s t) (wrapped (pos (bit_and (unsigned a) (unsigned b))))
+and_holds s t a b p q fit_a fit_b v w =
+    guard_three _ _ _ _ _ _
+    (λ h. exact _ _ (record {
+      low = omega (arith, ints);
+      high = and_high _ _ _ _ (at_left a fit_a v h) (at_right b fit_b w);
+    }))
+    (λ k. exact _ _ (record { low = omega (arith, ints); high = at_right b fit_b w k }))
+    (λ h k. and_wide s t a b p q fit_a fit_b v w)
+  where
+    at_left : (a : ℤ) → FitsSigned w64 a → In s a → is_natural s ≡ true
+        → pos (bit_and (unsigned a) (unsigned b)) ≤ℤ s.high
+    at_left (pos a) fit v h =
+        let e : unsigned (pos a) ≡ a = unsigned_is a fit in
+        omega (arith, ints, e, and_le_l (unsigned (pos a)) (unsigned b), v.high)
+    at_left (negsuc a) fit v h = not_natural s a v h
+
+    at_right : (b : ℤ) → FitsSigned w64 b → In t b → is_natural t ≡ true
+        → pos (bit_and (unsigned a) (unsigned b)) ≤ℤ t.high
+    at_right (pos b) fit w h =
+        let e : unsigned (pos b) ≡ b = unsigned_is b fit in
+        omega (arith, ints, e, and_le_r (unsigned a) (unsigned (pos b)), w.high)
+    at_right (negsuc b) fit w h = not_natural t b w h
+
+-- `or` with a negative number is negative, and no less than it
+or_below : (s t : Span) (n u : ℕ) → IsWordSpan s → IsWordSpan t → FitsSigned w64 (negsuc n)
+    → int_min s.low t.low ≤ℤ negsuc n → unsigned (negsuc n) ≤ u → u < 2 ^ 64 → InIfFits (span_or s t) (wrapped (pos u))
+or_below s t n u p q f low le small =
+    let bound : n < 2 ^ 63 = far_low (negsuc n) f in
+    let near : 18446744073709551615 - u ≤ n = omega (arith, le, unsigned_negative n f) in
+    let high : int_max s.high t.high ≤ℤ end_value (ceiling (int_max s.high t.high)) =
+    ceiling_high _ (omega (arith, ints, clamps, p.high.high, q.high.high)) in
+    subst (InIfFits (span_or s t)) (sym (read_negative (18446744073709551615 - u) u (omega (arith, near, bound)) (omega (arith, small))))
+    (stands _ _ (record {
+      low = omega (arith, ints, low, near);
+      high = negative_or (has_negative s t) (negsuc (18446744073709551615 - u)) (end_value (ceiling (int_max s.high t.high)))
+          (λ h. omega (arith, ints)) (λ h. omega (arith, ints, clamps, high, not_negative s t h));
+    }))
+
+-- `or`
+or_holds : (s t : Span) (a b : ℤ) → IsWordSpan s → IsWordSpan t → FitsSigned w64 a → FitsSigned w64 b → In s a → In t b
+    → InIfFits (span_or s t) (wrapped (pos (bit_or (unsigned a) (unsigned b))))
+or_holds s t (pos a) (pos b) p q f g v w =
+    let same : unsigned (pos a) ≡ a = unsigned_is a f in
+    let same' : unsigned (pos b) ≡ b = unsigned_is b g in
+    let high : int_max s.high t.high ≤ℤ end_value (ceiling (int_max s.high t.high)) =
+    ceiling_high _ (omega (arith, ints, clamps, p.high.high, q.high.high)) in
     let left : pos (unsigned (pos a)) ≤ℤ end_value (ceiling (int_max s.high t.high)) =
-    omega (arith, ints, clamps, near, same, v.high) in
+    omega (arith, ints, clamps, high, same, v.high) in
     let right : pos (unsigned (pos b)) ≤ℤ end_value (ceiling (int_max s.high t.high)) =
-    omega (arith, ints, clamps, near, same', w.high) in
-    let both : In (span (pos 0) (end_value (ceiling (int_max s.high t.high)))) (pos (f (unsigned (pos a)) (unsigned (pos b)))) =
-    record { low = omega (arith, ints); high = below_end f _ _ (ceiling (int_max s.high t.high)) keeps left right } in
-    guard _ _ _ (λ h. exact _ _ both)
-or_holds f s t (negsuc a) b keeps small small' fit_a fit_b v w =
-    guard _ _ _ (λ h. not_natural s a v (both_left _ (is_natural t) h))
-or_holds f s t (pos a) (negsuc b) keeps small small' fit_a fit_b v w =
-    guard _ _ _ (λ h. not_natural t b w (both_right (is_natural s) _ h))
+    omega (arith, ints, clamps, high, same', w.high) in
+    exact _ _ (record {
+      low = omega (arith, ints, clamps, v.low, same, le_or_l (unsigned (pos a)) (unsigned (pos b)));
+      high = negative_or _ _ _ (from_either _ _ (not_below s a v) (not_below t b w))
+          (λ h. below_end bit_or _ _ (ceiling (int_max s.high t.high)) or_lt left right);
+    })
+or_holds s t (negsuc a) b p q f g v w =
+    or_below s t a _ p q f (omega (arith, ints, clamps, v.low)) (le_or_l (unsigned (negsuc a)) (unsigned b)) (or_small (negsuc a) b)
+or_holds s t (pos a) (negsuc b) p q f g v w =
+    or_below s t b _ p q g (omega (arith, ints, clamps, w.low)) (le_or_r (unsigned (pos a)) (unsigned (negsuc b))) (or_small (pos a) (negsuc b))
+
+-- `xor` where the signs are alike
+xor_alike : (s t : Span) (x : ℕ) → pos x ≤ℤ ones s t → (are_unlike s t ≡ true → pos x ≤ℤ negsuc 0)
+    → In (span_xor s t) (pos x)
+xor_alike s t x high off = record {
+  low = natural_or (are_alike s t) (negsuc 0 -ℤ ones s t) (pos x) (λ h. omega (arith, ints)) (omega (arith, ints, high));
+  high = negative_or (are_unlike s t) (pos x) (ones s t) off (λ h. high);
+}
+
+-- where they differ
+xor_unlike : (s t : Span) (x : ℕ) → pos x ≤ℤ ones s t → (are_alike s t ≡ true → pos 0 ≤ℤ negsuc x)
+    → In (span_xor s t) (negsuc x)
+xor_unlike s t x high off = record {
+  low = natural_or (are_alike s t) (negsuc 0 -ℤ ones s t) (negsuc x) off (omega (arith, ints, high));
+  high = negative_or (are_unlike s t) (negsuc x) (ones s t) (λ h. omega (arith, ints)) (λ h. omega (arith, ints, high));
+}
+
+-- read with a sign
+xor_apart : (s t : Span) (x u : ℕ) → x < 2 ^ 63 → u ≡ 18446744073709551615 - x → pos x ≤ℤ ones s t
+    → (are_alike s t ≡ true → pos 0 ≤ℤ negsuc x) → InIfFits (span_xor s t) (wrapped (pos u))
+xor_apart s t x u low bits high off =
+    subst (InIfFits (span_xor s t)) (sym (read_negative x u low bits)) (stands _ _ (xor_unlike s t x high off))
+
+-- `xor`
+xor_holds : (s t : Span) (a b : ℤ) → IsWordSpan s → IsWordSpan t → FitsSigned w64 a → FitsSigned w64 b → In s a → In t b
+    → InIfFits (span_xor s t) (wrapped (pos (bit_xor (unsigned a) (unsigned b))))
+xor_holds s t (pos a) (pos b) p q f g v w =
+    let bits : bit_xor a b ≡ bit_xor (unsigned (pos a)) (unsigned (pos b)) =
+    sym (ap (λ n. bit_xor n (unsigned (pos b))) (unsigned_is a f) ∙ ap (bit_xor a) (unsigned_is b g)) in
+    subst (λ n. InIfFits (span_xor s t) (wrapped (pos n))) bits
+    (exact _ _ (xor_alike s t (bit_xor a b) (below_ones bit_xor s t (pos a) (pos b) xor_lt p q v w)
+    (from_either _ _ (λ h. not_below t b w (both_right (is_natural s) (is_negative t) h))
+    (λ h. not_below s a v (both_left (is_negative s) (is_natural t) h)))))
+xor_holds s t (negsuc a) (negsuc b) p q f g v w =
+    let bits : bit_xor a b ≡ bit_xor (unsigned (negsuc a)) (unsigned (negsuc b)) =
+    sym (ap (λ n. bit_xor n (unsigned (negsuc b))) (unsigned_negative a f)
+    ∙ ap (bit_xor (18446744073709551615 - a)) (unsigned_negative b g)
+    ∙ xor_complements a b (omega (arith, far_low (negsuc a) f)) (omega (arith, far_low (negsuc b) g))) in
+    subst (λ n. InIfFits (span_xor s t) (wrapped (pos n))) bits
+    (exact _ _ (xor_alike s t (bit_xor a b) (below_ones bit_xor s t (negsuc a) (negsuc b) xor_lt p q v w)
+    (from_either _ _ (λ h. not_natural s a v (both_left (is_natural s) (is_negative t) h))
+    (λ h. not_natural t b w (both_right (is_negative s) (is_natural t) h)))))
+xor_holds s t (negsuc a) (pos b) p q f g v w =
+    let low : a < 2 ^ 63 = far_low (negsuc a) f in
+    let low' : b < 2 ^ 63 = far_low (pos b) g in
+    xor_apart s t (bit_xor a b) _ (xor_lt 63 a b low low')
+    (ap (λ n. bit_xor n (unsigned (pos b))) (unsigned_negative a f) ∙ ap (bit_xor (18446744073709551615 - a)) (unsigned_is b g)
+    ∙ xor_complement a b (omega (arith, low)) (omega (arith, low')))
+    (below_ones bit_xor s t (negsuc a) (pos b) xor_lt p q v w)
+    (from_either _ _ (λ h. not_natural s a v (both_left (is_natural s) (is_natural t) h))
+    (λ h. not_below t b w (both_right (is_negative s) (is_negative t) h)))
+xor_holds s t (pos a) (negsuc b) p q f g v w =
+    let low : a < 2 ^ 63 = far_low (pos a) f in
+    let low' : b < 2 ^ 63 = far_low (negsuc b) g in
+    xor_apart s t (bit_xor a b) _ (xor_lt 63 a b low low')
+    (xor_comm (unsigned (pos a)) (unsigned (negsuc b))
+    ∙ ap (λ n. bit_xor n (unsigned (pos a))) (unsigned_negative b g) ∙ ap (bit_xor (18446744073709551615 - b)) (unsigned_is a f)
+    ∙ xor_complement b a (omega (arith, low')) (omega (arith, low)) ∙ ap (λ n. 18446744073709551615 - n) (xor_comm b a))
+    (below_ones bit_xor s t (pos a) (negsuc b) xor_lt p q v w)
+    (from_either _ _ (λ h. not_natural t b w (both_right (is_natural s) (is_natural t) h))
+    (λ h. not_below s a v (both_left (is_negative s) (is_negative t) h)))
 
 -- a truth value lies between two, of which the first means the test and the test means the second
 truth_in : (l b h : Bool) → (l ≡ true → b ≡ true) → (b ≡ true → h ≡ true) → In (span (truth l) (truth h)) (truth b)
@@ -363,7 +543,7 @@ equal_means s t a b v w is =
     eq_is a b h = grind (arith, ints)
 
 -- each operator
-pub span_holds : (op : Op) (s t : Span) (a b : ℤ) → s.high ≤ℤ end_value Greatest → t.high ≤ℤ end_value Greatest
+pub span_holds : (op : Op) (s t : Span) (a b : ℤ) → IsWordSpan s → IsWordSpan t
     → FitsSigned w64 a → FitsSigned w64 b → In s a → In t b → InIfFits (span_op op s t) (value_of_op op a b)
 span_holds Add s t a b p q f g v w =
     exact _ _ (record { low = omega (arith, ints, v.low, w.low); high = omega (arith, ints, v.high, w.high) })
@@ -392,9 +572,9 @@ span_holds Ge s t a b p q f g v w = stands _ _ (le_holds t s b a w v)
 span_holds Shl s t a b p q f g v w = shl_holds s t a b v w
 span_holds Shr s t a b p q f g v w = shr_holds s t a b f v w
 span_holds Shra s t a b p q f g v w = shra_holds s t a b v w
-span_holds And s t a b p q f g v w = and_holds s t a b f g v w
-span_holds Or s t a b p q f g v w = or_holds bit_or s t a b or_lt p q f g v w
-span_holds Xor s t a b p q f g v w = or_holds bit_xor s t a b xor_lt p q f g v w
+span_holds And s t a b p q f g v w = and_holds s t a b p q f g v w
+span_holds Or s t a b p q f g v w = or_holds s t a b p q f g v w
+span_holds Xor s t a b p q f g v w = xor_holds s t a b p q f g v w
 
 -- and so does each operator of one operand
 pub span_un_holds : (op : UnOp) (s : Span) (a : ℤ) → In s a → InIfFits (span_un_op op s) (value_of_un_op op a)

@@ -1,7 +1,8 @@
 -- The surer the operands, the surer the result: the spans of operators are monotone. For proofs only.
-use Rattle.std.proofs.Common.{◌≡◌, ℕ, ◌*◌, ◌/◌, ◌^◌, ◌<◌, ◌≤◌, Bool, true, false, if◌then◌else◌, not, ◌&&◌, refl, sym, subst, arith, ℤ, pos, negsuc, neg_ℤ, ◌-ℤ◌, ◌*ℤ◌, int_div, int_le, int_lt}
+use Rattle.std.proofs.Common.{◌≡◌, ℕ, ◌*◌, ◌/◌, ◌^◌, ◌<◌, ◌≤◌, Bool, true, false, if◌then◌else◌, not, ◌&&◌, ◌||◌, refl, sym, subst, arith, ℤ, pos, negsuc, neg_ℤ, ◌-ℤ◌, ◌*ℤ◌, int_div, int_le, int_lt}
 use Rattle.std.proofs.lemmas.Int.{ints, clamps}
 use Rattle.std.proofs.lemmas.Nat.{mul-le, le-div, shr_le, div-add-mod'}
+use Rattle.std.proofs.Math.Nat.{div-le_self}
 use Rattle.std.proofs.Math.Pow.{pow_mono, pow_pos}
 use Rattle.std.specs.Int.{int_min, int_max, int_div_euclid}
 use Rattle.std.specs.Prelude.{◌≤ℤ◌}
@@ -11,10 +12,10 @@ use Rattle.mir_base.specs.declared.operators.UnOp.{UnOp}
 use Rattle.mir_base.specs.declared.operators.UnOp.TheVariants.{Neg, Not}
 use Rattle.mir_base.specs.Numbers.{truth}
 use Rattle.bounds.specs.declared.ends.End.TheVariants.{Greatest}
-use Rattle.bounds.specs.Ends.{end_value}
-use Rattle.bounds.specs.EndLaws.{le_is, is_le, both_left, both_right, value_mono}
+use Rattle.bounds.specs.Ends.{end_value, ceiling}
+use Rattle.bounds.specs.EndLaws.{le_is, is_le, both_left, both_right, value_mono, ceiling_high}
 use Rattle.bounds.specs.declared.spans.Span.{Span}
-use Rattle.bounds.specs.Bounding.{Within, span, all, is_natural, is_positive, natural, are_distances, shifted_all, span_mul, span_div, span_mod, span_shl, span_shr, span_shra_by, span_shra, first_distance, depth, scaled, span_and, span_or, are_one, may_equal, span_lt, span_le, span_op, span_un_op}
+use Rattle.bounds.specs.Bounding.{Within, span, all, is_natural, natural, are_distances, shifted_all, span_mul, span_div, divided, is_negative, has_negative, reach, ones, span_xor, IsWordSpan, span_mod, span_shl, span_shr, span_shra_by, span_shra, first_distance, depth, scaled, span_and, span_or, are_one, may_equal, span_lt, span_le, span_op, span_un_op}
 use Rattle.bounds.specs.RoundingLaws.{WithinIfFits, both_true, ceiling_mono, le_trans}
 
 -- ---- where rules apply
@@ -27,23 +28,38 @@ lies s t w = record { within = λ p q. w }
 pub in_all : (s : Span) → WithinIfFits s all
 in_all s = record { within = λ p q. absurd (omega (arith, ints, p)) }
 
--- a rule that applies to the surer where it applies to the other
-guard : (b b' : Bool) (s s' : Span) → (b' ≡ true → b ≡ true) → (b' ≡ true → WithinIfFits s s')
-    → WithinIfFits (if b then s else all) (if b' then s' else all)
-guard b false s s' on within = in_all _
-guard true true s s' on within = within refl
-guard false true s s' on within = let bad : false ≡ true = on refl in absurd (cc)
+-- two rules, of which the first is the surer, and what is said where neither applies
+guard_three : (b b' c c' : Bool) (s s' t t' u u' : Span) → (b' ≡ true → b ≡ true) → (c' ≡ true → c ≡ true)
+    → (b' ≡ true → WithinIfFits s s') → (b ≡ true → c' ≡ true → WithinIfFits s t') → (c' ≡ true → WithinIfFits t t')
+    → (b ≡ true → WithinIfFits s u') → (c ≡ true → WithinIfFits t u') → WithinIfFits u u'
+    → WithinIfFits (if b then s else if c then t else u) (if b' then s' else if c' then t' else u')
+guard_three true true c c' s s' t t' u u' on on' one mixed two first second rest = one refl
+guard_three false true c c' s s' t t' u u' on on' one mixed two first second rest = let bad : false ≡ true = on refl in absurd (cc)
+guard_three true false c true s s' t t' u u' on on' one mixed two first second rest = mixed refl refl
+guard_three true false c false s s' t t' u u' on on' one mixed two first second rest = first refl
+guard_three false false true true s s' t t' u u' on on' one mixed two first second rest = two refl
+guard_three false false false true s s' t t' u u' on on' one mixed two first second rest =
+    let bad : false ≡ true = on' refl in absurd (cc)
+guard_three false false true false s s' t t' u u' on on' one mixed two first second rest = second refl
+guard_three false false false false s s' t t' u u' on on' one mixed two first second rest = rest
 
--- two rules, of which the first is the surer
+-- two rules, and nothing is said where neither applies
 guard_two : (b b' c c' : Bool) (s s' t t' : Span) → (b' ≡ true → b ≡ true) → (c' ≡ true → c ≡ true)
     → (b' ≡ true → WithinIfFits s s') → (b ≡ true → c' ≡ true → WithinIfFits s t') → (c' ≡ true → WithinIfFits t t')
     → WithinIfFits (if b then s else if c then t else all) (if b' then s' else if c' then t' else all)
-guard_two true true c c' s s' t t' on on' one mixed two = one refl
-guard_two false true c c' s s' t t' on on' one mixed two = let bad : false ≡ true = on refl in absurd (cc)
-guard_two b false c false s s' t t' on on' one mixed two = in_all _
-guard_two true false c true s s' t t' on on' one mixed two = mixed refl refl
-guard_two false false true true s s' t t' on on' one mixed two = two refl
-guard_two false false false true s s' t t' on on' one mixed two = let bad : false ≡ true = on' refl in absurd (cc)
+guard_two b b' c c' s s' t t' on on' one mixed two =
+    guard_three b b' c c' s s' t t' all all on on' one mixed two (λ h. in_all s) (λ h. in_all t) (in_all all)
+
+-- one rule, and what is said where it does not apply
+guard_else : (b b' : Bool) (s s' u u' : Span) → (b' ≡ true → b ≡ true) → (b' ≡ true → WithinIfFits s s')
+    → (b ≡ true → WithinIfFits s u') → WithinIfFits u u' → WithinIfFits (if b then s else u) (if b' then s' else u')
+guard_else b b' s s' u u' on one first rest =
+    guard_three b b' false false s s' u u' u u' on (λ h. h) one (λ h k. first h) (λ h. rest) first (λ h. rest) rest
+
+-- one rule, and nothing is said where it does not apply
+guard : (b b' : Bool) (s s' : Span) → (b' ≡ true → b ≡ true) → (b' ≡ true → WithinIfFits s s')
+    → WithinIfFits (if b then s else all) (if b' then s' else all)
+guard b b' s s' on one = guard_else b b' s s' all all on one (λ h. in_all s) (in_all all)
 
 -- a test of being at least a number stays
 least_stays : (c : ℤ) (s s' : Span) → Within s s' → int_le c s'.low ≡ true → int_le c s.low ≡ true
@@ -56,6 +72,20 @@ most_stays c s s' w h = let high : s'.high ≤ℤ c = le_is _ _ h in is_le _ _ (
 -- two tests that stay
 both_stay : (a a' b b' : Bool) → (a' ≡ true → a ≡ true) → (b' ≡ true → b ≡ true) → (a' && b') ≡ true → (a && b) ≡ true
 both_stay a a' b b' p q h = both_true a b (p (both_left a' b' h)) (q (both_right a' b' h))
+
+-- one of two tests that stay
+either_stays : (a a' b b' : Bool) → (a' ≡ true → a ≡ true) → (b' ≡ true → b ≡ true) → (a' || b') ≡ true → (a || b) ≡ true
+either_stays true a' b b' p q h = refl
+either_stays false true b b' p q h = let bad : false ≡ true = p refl in absurd (cc)
+either_stays false false b b' p q h = q h
+
+-- where one number is found less than another, each lesser one is found less than each greater one
+pub lt_stays : (a a' b b' : ℤ) → a ≤ℤ a' → b' ≤ℤ b → int_lt a' b' ≡ true → int_lt a b ≡ true
+lt_stays a a' b b' p q h = grind (arith, ints)
+
+-- a negative span stays negative
+negative_stays : (s s' : Span) → Within s s' → is_negative s' ≡ true → is_negative s ≡ true
+negative_stays s s' w h = lt_stays _ _ (pos 0) (pos 0) w.high (omega (arith, ints)) h
 
 -- distances stay distances
 distances_stay : (t t' : Span) → Within t t' → are_distances t' ≡ true → are_distances t ≡ true
@@ -126,7 +156,7 @@ depth_mono (negsuc a) (pos b) le = omega arith
 depth_mono (negsuc a) (negsuc b) le = omega (arith, ints, le)
 
 -- negated natural numbers in order
-neg_mono : (a b : ℕ) → a ≤ b → neg_ℤ (pos b) ≤ℤ neg_ℤ (pos a)
+pub neg_mono : (a b : ℕ) → a ≤ b → neg_ℤ (pos b) ≤ℤ neg_ℤ (pos a)
 neg_mono a b le = omega (arith, ints, le)
 
 -- multiples of spans
@@ -165,15 +195,28 @@ mul_mono s s' t t' v w =
     (λ h k. lies _ _ (turned_mono s s' t t' v w (least_stays (pos 0) s s' v k)))
     (λ k. lies _ _ (scaled_mono t t' _ _ w (natural_mono _ _ v.high)))
 
+-- spans divided by at least so much
+divided_mono : (s s' : Span) (m n : ℕ) → Within s s' → n ≤ m → 0 < n → Within (divided s m) (divided s' n)
+divided_mono s s' m n v le some = record {
+  low = neg_mono _ _ (div_mono _ _ _ _ (depth_mono _ _ v.low) le some);
+  high = pos_mono _ _ (div_mono _ _ _ _ (natural_mono _ _ v.high) le some);
+}
+
 -- quotients
 quotient_mono : (s s' t t' : Span) → Within s s' → Within t t' → WithinIfFits (span_div s t) (span_div s' t')
 quotient_mono s s' t t' v w =
-    guard _ _ _ _ (both_stay _ _ _ _ (least_stays (pos 0) s s' v) (least_stays (pos 1) t t' w))
+    let down : depth s.low ≤ depth s'.low = depth_mono _ _ v.low in
+    let up : natural s.high ≤ natural s'.high = natural_mono _ _ v.high in
+    let low : depth s.low / natural (int_max t.low (pos 1)) ≤ depth s.low = div-le_self _ _ in
+    let high : natural s.high / natural (int_max t.low (pos 1)) ≤ natural s.high = div-le_self _ _ in
+    let less : int_max t'.low (pos 1) ≤ℤ int_max t.low (pos 1) = omega (arith, ints, clamps, w.low) in
+    guard_else _ _ _ _ _ _ (least_stays (pos 0) t t' w)
+    (λ h. lies _ _ (divided_mono s s' _ _ v (natural_mono _ _ less) (positive_is (int_max t'.low (pos 1)) (omega (arith, ints, clamps)))))
     (λ h. lies _ _ (record {
-      low = omega (arith, ints);
-      high = pos_mono _ _ (div_mono _ _ _ _ (natural_mono _ _ v.high) (natural_mono _ _ w.low)
-          (positive_is t'.low (le_is _ _ (both_right (is_natural s') (is_positive t') h))));
+      low = neg_mono _ _ (omega (arith, down, low));
+      high = pos_mono _ _ (omega (arith, up, high));
     }))
+    (lies _ _ (record { low = neg_mono _ _ (omega (arith, down, up)); high = pos_mono _ _ (omega (arith, down, up)) }))
 
 -- a choice of the lesser, where it may be made
 min_where : (b b' : Bool) (h h' k k' : ℤ) → (b' ≡ true → b ≡ true) → h ≤ℤ h' → k ≤ℤ k'
@@ -287,10 +330,44 @@ shr_mono s s' t t' small v w =
     }))
     (λ k. lies _ _ (record { low = omega (arith, ints); high = pos_mono _ _ (natural_mono _ _ v.high) }))
 
+-- ---- operators bit by bit
+
+-- the greater of two numbers of 64 bits has 64 bits
+pub max_word : (a b : ℤ) → a ≤ℤ end_value Greatest → b ≤ℤ end_value Greatest → int_max a b ≤ℤ end_value Greatest
+max_word a b p q = omega (arith, ints, clamps, p, q)
+
+-- numbers reach no further than 64 bits
+pub reach_word : (s : Span) → IsWordSpan s → reach s ≤ℤ end_value Greatest
+reach_word s p =
+    omega (arith, ints, clamps, pos_mono _ _ (natural_mono s.high (end_value Greatest) p.high.high), p.low.low)
+
+-- they reach as far as what is less sure at most
+reach_mono : (s s' : Span) → Within s s' → reach s ≤ℤ reach s'
+reach_mono s s' v = omega (arith, ints, clamps, pos_mono _ _ (natural_mono _ _ v.high), v.low)
+
+-- no operand reaches further than the number of ones
+pub ones_above : (s t : Span) → IsWordSpan s → IsWordSpan t → (reach s ≤ℤ ones s t) × (reach t ≤ℤ ones s t)
+ones_above s t p q =
+    let near : int_max (reach s) (reach t) ≤ℤ ones s t =
+    ceiling_high _ (omega (arith, ints, clamps, reach_word s p, reach_word t q)) in
+    (omega (arith, ints, clamps, near), omega (arith, ints, clamps, near))
+
+-- so this is not negative
+ones_natural : (s t : Span) → IsWordSpan s → IsWordSpan t → pos 0 ≤ℤ ones s t
+ones_natural s t p q = omega (arith, ints, clamps, (ones_above s t p q).0)
+
+-- the number of ones rises
+ones_mono : (s s' t t' : Span) → IsWordSpan s' → IsWordSpan t' → Within s s' → Within t t' → ones s t ≤ℤ ones s' t'
+ones_mono s s' t t' p q v w =
+    value_mono _ _ (ceiling_mono _ _ (omega (arith, ints, clamps, reach_word s' p, reach_word t' q))
+    (omega (arith, ints, clamps, reach_mono s s' v, reach_mono t t' w)))
+
 -- `and`
-and_mono : (s s' t t' : Span) → Within s s' → Within t t' → WithinIfFits (span_and s t) (span_and s' t')
-and_mono s s' t t' v w =
-    guard_two _ _ _ _ _ _ _ _ (least_stays (pos 0) s s' v) (least_stays (pos 0) t t' w)
+and_mono : (s s' t t' : Span) → IsWordSpan s' → IsWordSpan t' → Within s s' → Within t t'
+    → WithinIfFits (span_and s t) (span_and s' t')
+and_mono s s' t t' p q v w =
+    let some : pos 0 ≤ℤ ones s' t' = ones_natural s' t' p q in
+    guard_three _ _ _ _ _ _ _ _ _ _ (least_stays (pos 0) s s' v) (least_stays (pos 0) t t' w)
     (λ h. lies _ _ (record {
       low = omega (arith, ints);
       high = min_where _ _ _ _ _ _ (least_stays (pos 0) t t' w) v.high w.high;
@@ -300,24 +377,82 @@ and_mono s s' t t' v w =
       high = min_other _ _ _ _ (least_stays (pos 0) t t' w k) w.high;
     }))
     (λ k. lies _ _ (record { low = omega (arith, ints); high = w.high }))
-
--- and so does that of `or` and `xor`
-or_mono : (s s' t t' : Span) → s'.high ≤ℤ end_value Greatest → t'.high ≤ℤ end_value Greatest → Within s s' → Within t t'
-    → WithinIfFits (span_or s t) (span_or s' t')
-or_mono s s' t t' small small' v w =
-    let greater : int_max s.high t.high ≤ℤ int_max s'.high t'.high = omega (arith, ints, clamps, v.high, w.high) in
-    let least : int_max s'.high t'.high ≤ℤ end_value Greatest = omega (arith, ints, clamps, small, small') in
-    guard _ _ _ _ (both_stay _ _ _ _ (least_stays (pos 0) s s' v) (least_stays (pos 0) t t' w))
     (λ h. lies _ _ (record {
-      low = omega (arith, ints);
-      high = value_mono _ _ (ceiling_mono _ _ least greater);
+      low = omega (arith, ints, some);
+      high = le_trans _ _ _ (min_first (is_natural t) s.high t.high) (omega (arith, ints, clamps, v.high));
     }))
+    (λ k. lies _ _ (record { low = omega (arith, ints, some); high = omega (arith, ints, clamps, w.high) }))
+    (lies _ _ (record {
+      low = omega (arith, ints, ones_mono s s' t t' p q v w);
+      high = omega (arith, ints, clamps, v.high, w.high);
+    }))
+  where
+    min_first : (c : Bool) (h k : ℤ) → (if c then int_min h k else h) ≤ℤ h
+    min_first true h k = omega (arith, ints, clamps)
+    min_first false h k = omega (arith, ints)
 
--- where one number is found less than another, each lesser one is found less than each greater one
-pub lt_stays : (a a' b b' : ℤ) → a ≤ℤ a' → b' ≤ℤ b → int_lt a' b' ≡ true → int_lt a b ≡ true
-lt_stays a a' b b' p q h = grind (arith, ints)
+-- -1 where it is known, and else a number
+negative_where : (b b' : Bool) (h h' : ℤ) → (b' ≡ true → b ≡ true) → h ≤ℤ h' → (b' ≡ false → negsuc 0 ≤ℤ h')
+    → (if b then negsuc 0 else h) ≤ℤ (if b' then negsuc 0 else h')
+negative_where true true h h' on p q = omega (arith, ints)
+negative_where true false h h' on p q = q refl
+negative_where false true h h' on p q = let bad : false ≡ true = on refl in absurd (cc)
+negative_where false false h h' on p q = p
 
--- and so with "at most" in the place of "less"
+-- 0 where it is known, and else a negative number
+natural_where : (b b' : Bool) (l l' : ℤ) → (b' ≡ true → b ≡ true) → l' ≤ℤ l → l' ≤ℤ pos 0
+    → (if b' then pos 0 else l') ≤ℤ (if b then pos 0 else l)
+natural_where true true l l' on p q = omega (arith, ints)
+natural_where true false l l' on p q = q
+natural_where false true l l' on p q = let bad : false ≡ true = on refl in absurd (cc)
+natural_where false false l l' on p q = p
+
+-- of spans of which none is negative, the greater high end is not
+pub not_negative : (s t : Span) → has_negative s t ≡ false → pos 0 ≤ℤ s.high
+not_negative s t h = cases (is_negative s) refl h
+  where
+    natural_high : (z : ℤ) → int_lt z (pos 0) ≡ false → pos 0 ≤ℤ z
+    natural_high (pos n) e = omega (arith, ints)
+    natural_high (negsuc n) e = absurd (cc)
+
+    cases : (b : Bool) → is_negative s ≡ b → (b || is_negative t) ≡ false → pos 0 ≤ℤ s.high
+    cases true e h = absurd (cc)
+    cases false e h = natural_high s.high e
+
+-- `or`
+or_mono : (s s' t t' : Span) → IsWordSpan s' → IsWordSpan t' → Within s s' → Within t t'
+    → WithinIfFits (span_or s t) (span_or s' t')
+or_mono s s' t t' p q v w =
+    let greater : int_max s.high t.high ≤ℤ int_max s'.high t'.high = omega (arith, ints, clamps, v.high, w.high) in
+    let least : int_max s'.high t'.high ≤ℤ end_value Greatest = omega (arith, ints, clamps, p.high.high, q.high.high) in
+    let near : int_max s'.high t'.high ≤ℤ end_value (ceiling (int_max s'.high t'.high)) = ceiling_high _ least in
+    lies _ _ (record {
+      low = omega (arith, ints, clamps, v.low, w.low);
+      high = negative_where _ _ _ _ (either_stays _ _ _ _ (negative_stays s s' v) (negative_stays t t' w))
+          (value_mono _ _ (ceiling_mono _ _ least greater))
+          (λ h. omega (arith, ints, clamps, near, not_negative s' t' h));
+    })
+
+-- `xor`
+xor_mono : (s s' t t' : Span) → IsWordSpan s' → IsWordSpan t' → Within s s' → Within t t'
+    → WithinIfFits (span_xor s t) (span_xor s' t')
+xor_mono s s' t t' p q v w =
+    let some : pos 0 ≤ℤ ones s' t' = ones_natural s' t' p q in
+    let rises : ones s t ≤ℤ ones s' t' = ones_mono s s' t t' p q v w in
+    let natural_s : is_natural s' ≡ true → is_natural s ≡ true = least_stays (pos 0) s s' v in
+    let natural_t : is_natural t' ≡ true → is_natural t ≡ true = least_stays (pos 0) t t' w in
+    lies _ _ (record {
+      low = natural_where _ _ _ _
+          (either_stays _ _ _ _ (both_stay _ _ _ _ natural_s natural_t)
+          (both_stay _ _ _ _ (negative_stays s s' v) (negative_stays t t' w)))
+          (omega (arith, ints, rises)) (omega (arith, ints, some));
+      high = negative_where _ _ _ _
+          (either_stays _ _ _ _ (both_stay _ _ _ _ natural_s (negative_stays t t' w))
+          (both_stay _ _ _ _ (negative_stays s s' v) natural_t))
+          rises (λ h. omega (arith, ints, some));
+    })
+
+-- where one number is found at most another, each lesser one is found at most each greater one
 pub le_stays : (a a' b b' : ℤ) → a ≤ℤ a' → b' ≤ℤ b → int_le a' b' ≡ true → int_le a b ≡ true
 le_stays a a' b b' p q h =
     let m : a' ≤ℤ b' = le_is _ _ h in is_le a b (omega (arith, ints, p, q, m))
@@ -345,8 +480,8 @@ pub may_stay : (s s' t t' : Span) → Within s s' → Within t t' → may_equal 
 may_stay s s' t t' v w = both_stay _ _ _ _ (le_stays _ _ _ _ v.low w.high) (le_stays _ _ _ _ w.low v.high)
 
 -- each operator
-pub span_mono : (op : Op) (s s' t t' : Span) → s'.high ≤ℤ end_value Greatest → t'.high ≤ℤ end_value Greatest → Within s s'
-    → Within t t' → WithinIfFits (span_op op s t) (span_op op s' t')
+pub span_mono : (op : Op) (s s' t t' : Span) → IsWordSpan s' → IsWordSpan t' → Within s s' → Within t t'
+    → WithinIfFits (span_op op s t) (span_op op s' t')
 span_mono Add s s' t t' p q v w =
     lies _ _ (record { low = omega (arith, ints, v.low, w.low); high = omega (arith, ints, v.high, w.high) })
 span_mono Sub s s' t t' p q v w =
@@ -373,11 +508,11 @@ span_mono Le s s' t t' p q v w = lies _ _ (le_mono s s' t t' v w)
 span_mono Gt s s' t t' p q v w = lies _ _ (lt_mono t t' s s' w v)
 span_mono Ge s s' t t' p q v w = lies _ _ (le_mono t t' s s' w v)
 span_mono Shl s s' t t' p q v w = shl_mono s s' t t' v w
-span_mono Shr s s' t t' p q v w = shr_mono s s' t t' p v w
+span_mono Shr s s' t t' p q v w = shr_mono s s' t t' p.high.high v w
 span_mono Shra s s' t t' p q v w = shra_mono s s' t t' v w
-span_mono And s s' t t' p q v w = and_mono s s' t t' v w
+span_mono And s s' t t' p q v w = and_mono s s' t t' p q v w
 span_mono Or s s' t t' p q v w = or_mono s s' t t' p q v w
-span_mono Xor s s' t t' p q v w = or_mono s s' t t' p q v w
+span_mono Xor s s' t t' p q v w = xor_mono s s' t t' p q v w
 
 -- so does each operator of one number: a span that lies in another is taken to a span that lies in that of the other
 pub span_un_mono : (op : UnOp) (s s' : Span) → Within s s' → WithinIfFits (span_un_op op s) (span_un_op op s')

@@ -7,6 +7,7 @@
 //! of what is known of variables: they implement its `Knowledge`, by rules that are lawful (`bound_laws`).
 #![tactic(auto)]
 
+mod bits;
 mod coding;
 mod ends;
 mod facts;

@@ -1,15 +1,15 @@
 // Between which numbers the value of an operator lies.
-ghost use Rattle.std.specs.Prelude.{◌≡◌, ◌≤ℤ◌, ◌&&◌, ◌+ℤ◌, ◌-ℤ◌, ◌*◌, ◌/◌, ◌^◌, ◌<◌, if◌then◌else◌, ℤ, neg_ℤ, pos, int_le};
+ghost use Rattle.std.specs.Prelude.{◌≡◌, ◌≤ℤ◌, ◌&&◌, ◌||◌, ◌+ℤ◌, ◌-ℤ◌, ◌*◌, ◌/◌, ◌^◌, ◌<◌, if◌then◌else◌, ℤ, neg_ℤ, pos, int_le};
 ghost use Rattle.mir_base.specs.declared.operators.Op.TheVariants.{Add, Eq, Max, Min, Ne, Sub};
 ghost use Rattle.mir_base.specs.Numbers.{truth};
 ghost use Rattle.std.specs.Int.{int_div_euclid, int_max, int_min};
 ghost use Rattle.bounds.specs.declared.ends.End.TheVariants.{Greatest, Least};
-ghost use Rattle.bounds.specs.Ends.{ceiling, end_value};
-ghost use Rattle.bounds.specs.Bounding.{all, are_distances, are_one, is_natural, is_positive, may_equal, natural, span, span_and, span_div, span_le, span_lt, span_mod, span_mul, span_of, span_op, span_or, span_shl, span_shr, span_shra, span_shra_by, span_un_op, first_distance, depth, scaled, IsInWord, IsWordSpan};
+ghost use Rattle.bounds.specs.Ends.{end_value};
+ghost use Rattle.bounds.specs.Bounding.{all, are_distances, are_one, is_natural, is_positive, may_equal, natural, span, span_and, span_div, divided, size, is_negative, has_negative, reach, ones, are_alike, are_unlike, span_xor, span_le, span_lt, span_mod, span_mul, span_of, span_op, span_or, span_shl, span_shr, span_shra, span_shra_by, span_un_op, first_distance, depth, scaled, IsInWord, IsWordSpan};
 
-use crate::ends::{End, ceiling, end_value};
+use crate::bits::{span_and, span_or, span_xor};
+use crate::ends::end_value;
 use crate::facts::Fact;
-use crate::rounding::highest;
 use mir_base::{Op, UnOp};
 
 /// The numbers from `low` to `high`.
@@ -62,7 +62,7 @@ fn sum(a: i128, b: i128) -> i128
 }
 
 /// The difference of two numbers.
-fn difference(a: i128, b: i128) -> i128
+pub(crate) fn difference(a: i128, b: i128) -> i128
     requires left { IsInWord a }
     requires right { IsInWord b }
     ensures { result ≡ a -ℤ b }
@@ -129,14 +129,14 @@ fn span_max(s: Span, t: Span) -> Span
 }
 
 /// The number, or 0 where it is negative.
-fn natural(z: i128) -> i128
+pub(crate) fn natural(z: i128) -> i128
     ensures { result ≡ pos (natural z) }
 {
     if z < 0 { 0 } else { z }
 }
 
 /// Whether no number of the span is negative.
-fn is_natural(s: Span) -> bool
+pub(crate) fn is_natural(s: Span) -> bool
     ensures { result ≡ is_natural s }
 {
     0 <= s.low
@@ -147,29 +147,6 @@ fn is_positive(s: Span) -> bool
     ensures { result ≡ is_positive s }
 {
     1 <= s.low
-}
-
-/// `and` where an operand is natural.
-fn span_and(s: Span, t: Span) -> Span
-    ensures { result ≡ span_and s t }
-{
-    if is_natural(s) {
-        Span {
-            low: 0,
-            high: if is_natural(t) {
-                lesser(s.high, t.high)
-            } else {
-                s.high
-            },
-        }
-    } else if is_natural(t) {
-        Span {
-            low: 0,
-            high: t.high,
-        }
-    } else {
-        all()
-    }
 }
 
 /// 1 where the test holds, else 0.
@@ -296,19 +273,41 @@ fn are_distances(s: Span) -> bool
     0 <= s.low && s.high <= 63
 }
 
-/// Quotients of natural numbers.
+/// The span divided by at least n.
+fn divided(s: Span, n: i128) -> Span
+    requires span { IsWordSpan s }
+    requires number { (pos 1 ≤ℤ n) × (n ≤ℤ pos 9223372036854775808) }
+    ensures { result ≡ divided s (natural n) }
+{
+    Span {
+        low: negated(quotient(depth(s.low), n)),
+        high: quotient(natural(s.high), n),
+    }
+}
+
+/// How far the numbers of the span are from 0 at most.
+fn size(s: Span) -> i128
+    requires { IsWordSpan s }
+    ensures end_value { result ≡ pos (size s) }
+    ensures low { pos 0 ≤ℤ result }
+    ensures high { result ≤ℤ pos 9223372036854775808 }
+{
+    greater(depth(s.low), natural(s.high))
+}
+
+/// Quotients: no further from 0 than the dividend.
 fn span_div(s: Span, t: Span) -> Span
     requires left { IsWordSpan s }
     requires right { IsWordSpan t }
     ensures { result ≡ span_div s t }
 {
-    if is_natural(s) && is_positive(t) {
-        Span {
-            low: 0,
-            high: quotient(natural(s.high), t.low),
-        }
+    if is_natural(t) {
+        divided(s, greater(t.low, 1))
     } else {
-        all()
+        Span {
+            low: negated(size(s)),
+            high: size(s),
+        }
     }
 }
 
@@ -340,22 +339,6 @@ fn span_mod(s: Span, t: Span) -> Span
         Span {
             low: lesser(0, difference(1, t.high)),
             high: difference(t.high, 1),
-        }
-    } else {
-        all()
-    }
-}
-
-/// `or` and `xor` of natural numbers.
-fn span_or(s: Span, t: Span) -> Span
-    requires left { IsWordSpan s }
-    requires right { IsWordSpan t }
-    ensures { result ≡ span_or s t }
-{
-    if is_natural(s) && is_natural(t) {
-        Span {
-            low: 0,
-            high: end_value(highest(greater(s.high, t.high))) as i128,
         }
     } else {
         all()
@@ -479,7 +462,8 @@ pub(crate) fn span_op(op: Op, s: Span, t: Span) -> Span
         Op::Shr => span_shr(s, t),
         Op::Shra => span_shra(s, t),
         Op::And => span_and(s, t),
-        Op::Or | Op::Xor => span_or(s, t),
+        Op::Or => span_or(s, t),
+        Op::Xor => span_xor(s, t),
     }
 }
 
