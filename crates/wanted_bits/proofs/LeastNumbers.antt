@@ -1,6 +1,5 @@
 -- The least solution of the flow over blocks, walked back through each block, has the least wanted bits before each node.
-use Rattle.std.proofs.Common.{◌≡◌, ◌⊎◌, ℕ, zero, suc, ◌<◌, ◌≤◌, min, max, Bool, true, false, if◌then◌else◌, inl, inr, List, [], ◌∷◌, drop, length, map, replicate, slice_get, slice_index_or, Option, Some, None, refl, sym, ap, ◌∙◌, subst, arith}
-use Rattle.std.specs.List.{range_with_len}
+use Rattle.std.proofs.Common.{◌≡◌, ◌⊎◌, ℕ, zero, suc, ◌<◌, ◌≤◌, min, max, Bool, true, false, if◌then◌else◌, inl, inr, List, [], ◌∷◌, drop, length, replicate, slice_get, slice_index_or, Option, Some, None, refl, sym, ap, ◌∙◌, subst, arith}
 use Rattle.std.proofs.lemmas.Bool.{cases_lt}
 use Rattle.std.proofs.lemmas.Grind.{get_or_default_zero}
 use Rattle.std.proofs.lemmas.List.{get_or-replicate, get_or_past, length-map, length-replicate}
@@ -24,6 +23,7 @@ use Rattle.wanted_bits.specs.Wanted.{AreLeastWantedBy, AreWantedBy, Asked, wante
 use Rattle.wanted_bits.specs.MoreWanted.{more_past, most_past}
 use Rattle.wanted_bits.specs.BitsOrder.{BelowLists, BelowNumber, HasFew}
 use Rattle.wanted_bits.specs.Found.{behind_bits, noted_past}
+use Rattle.wanted_bits.specs.KeptRows.{by_vars, end_node, greatest}
 use Rattle.wanted_bits.specs.Walking.{HaveBacks, assigned_bits, before_list, bits_at, bits_past, bits_through}
 use Rattle.wanted_bits.specs.WalkLaws.{AsksFew, FewerEach, list_few, list_long, list_more, own_bits, read_bits, read_most, through_is, through_long}
 use Rattle.wanted_bits.specs.WantedNet.{capped, wanted_net}
@@ -38,28 +38,22 @@ drop_some (k ∷ list) zero n e = let same : k ≡ n = cc in ap (λ m. m ∷ lis
 drop_some (k ∷ list) (suc i) n e = drop_some list i n e
 
 -- and past its end
-drop_none : (list : List ℕ) (i : ℕ) → slice_get list i ≡ None → drop i list ≡ []
+pub drop_none : (list : List ℕ) (i : ℕ) → slice_get list i ≡ None → drop i list ≡ []
 drop_none [] zero e = refl
 drop_none [] (suc i) e = refl
 drop_none (k ∷ list) zero e = cc
 drop_none (k ∷ list) (suc i) e = drop_none list i e
 
 -- an item that no other comes after is the last
-ends_at_none : (list : List ℕ) (i n : ℕ) → slice_get list i ≡ Some n → slice_get list (suc i) ≡ None → Ends n list
+pub ends_at_none : (list : List ℕ) (i n : ℕ) → slice_get list i ≡ Some n → slice_get list (suc i) ≡ None → Ends n list
 ends_at_none [] i n e none = cc
 ends_at_none (k ∷ []) zero n e none = cc
 ends_at_none (k ∷ []) (suc i) n e none = cc
 ends_at_none (k ∷ l ∷ list) zero n e none = cc
 ends_at_none (k ∷ l ∷ list) (suc i) n e none = ends_at_none (l ∷ list) i n e none
 
--- the last item
-abbrev end_node : List ℕ → ℕ
-end_node [] = 0
-end_node (k ∷ []) = k
-end_node (k ∷ l ∷ list) = end_node (l ∷ list)
-
 -- where a list ends
-end_is : (list : List ℕ) (m : ℕ) → Ends m list → end_node list ≡ m
+pub end_is : (list : List ℕ) (m : ℕ) → Ends m list → end_node list ≡ m
 end_is [] m e = absurd e
 end_is (k ∷ []) m e = e
 end_is (k ∷ l ∷ list) m e = end_is (l ∷ list) m e
@@ -74,12 +68,8 @@ first_begins : (list : List ℕ) (n : ℕ) → Begins n list → slice_get list 
 first_begins [] n b = absurd b
 first_begins (k ∷ list) n b = ap Some b
 
--- a number for each variable
-abbrev by_vars : ℕ → (ℕ → ℕ) → List ℕ
-by_vars vars f = map f (range_with_len 0 vars)
-
--- of a variable of the graph
-by_vars_at : (n : ℕ) (f : ℕ → ℕ) (x : ℕ) → x < n → bits_at (by_vars n f) x ≡ f x
+-- a number for each variable, of a variable of the graph
+pub by_vars_at : (n : ℕ) (f : ℕ → ℕ) (x : ℕ) → x < n → bits_at (by_vars n f) x ≡ f x
 by_vars_at n f x lt = get_or-map-range_with_len f 0 n x x 0 lt (omega arith)
 
 -- at most 64 of each
@@ -89,12 +79,7 @@ by_vars_few n f few x = elim (cases_lt x n) [
   | inr ge ↦ omega (arith, get_or_past (by_vars n f) x 0 (omega (arith, length-map-range_with_len f 0 n, ge)))
 ]
 
--- the greatest number among some nodes
-abbrev greatest : (ℕ → ℕ) → List ℕ → ℕ
-greatest f [] = 0
-greatest f (s ∷ list) = max (f s) (greatest f list)
-
--- each of them is at most that
+-- each of some numbers is at most the greatest
 greatest_has : (f : ℕ → ℕ) (list : List ℕ) (slot s : ℕ) → slice_get list slot ≡ Some s → f s ≤ greatest f list
 greatest_has f [] slot s e = cc
 greatest_has f (k ∷ list) zero s e = let same : k ≡ s = cc in omega (arith, ap f same)
@@ -403,7 +388,7 @@ module _ (graph : GraphShape) (asked : Asked) (asks : AsksFew asked) (shifts : �
     chain_fewer (k ∷ m ∷ chain) (suc i) n bits is at long fewer x x_in = chain_fewer (m ∷ chain) i n bits is.1 at long fewer x x_in
 
     -- by the lists behind the blocks
-    block_fewer : (b i n : ℕ) (list : List ℕ) (x : ℕ) → slice_get lists b ≡ Some list → slice_get list i ≡ Some n → x < vars → bits_at (before_list graph asked back (drop i list) (behind_lists b)) x ≤ others n x
+    pub block_fewer : (b i n : ℕ) (list : List ℕ) (x : ℕ) → slice_get lists b ≡ Some list → slice_get list i ≡ Some n → x < vars → bits_at (before_list graph asked back (drop i list) (behind_lists b)) x ≤ others n x
     block_fewer b i n list x listed at x_in =
         chain_fewer list i n (behind_lists b) (are.blocks b list listed).chain at (length-map-range_with_len (behind_node (end_node (list_at lists b))) 0 vars)
         (λ m y ends y_in.
@@ -413,7 +398,7 @@ module _ (graph : GraphShape) (asked : Asked) (asks : AsksFew asked) (shifts : �
     lists_few : (b : ℕ) → HasFew (behind_lists b)
     lists_few b = by_vars_few vars (behind_node (end_node (list_at lists b))) (λ x. behind_most (end_node (list_at lists b)) x)
 
-    lists_long : (b : ℕ) → length (behind_lists b) ≡ vars
+    pub lists_long : (b : ℕ) → length (behind_lists b) ≡ vars
     lists_long b = length-map-range_with_len (behind_node (end_node (list_at lists b))) 0 vars
 
     none_fewer : (bits : List ℕ) → FewerEach (replicate vars 0) bits
@@ -443,7 +428,7 @@ module _ (graph : GraphShape) (asked : Asked) (asks : AsksFew asked) (shifts : �
         reaches : others from x ≤ behind_node (end_node (list_at lists b)) x
         reaches = omega (arith, greatest_has (λ s. others s x) (succs_at graph.nodes to) edge.0 from edge.1, ap (λ k. behind_node k x) end)
 
-    others_solve : Solves BelowLists (wanted_net graph asked back lists edges firsts) behind_lists
+    pub others_solve : Solves BelowLists (wanted_net graph asked back lists edges firsts) behind_lists
     others_solve = record {
       above_first = λ b lt. fewer_below (replicate vars 0) (behind_lists b) (length-replicate {A = ℕ} vars 0 ∙ sym (lists_long b)) (none_fewer (behind_lists b)) (lists_few b);
       above_edges = λ e lt.

@@ -2,6 +2,7 @@ pub mod Locksteps
 pub mod Found
 pub mod Raising
 pub mod LeastNumbers
+pub mod KeptBelow
 pub mod Noting
 pub mod Asking
 pub mod Pushing

@@ -15,6 +15,7 @@ pub mod Touching
 pub mod TouchLaws
 pub mod WantedNet
 pub mod WantedNetLaws
+pub mod KeptRows
 pub mod Shifts
 pub mod ByRows
 pub mod WantedFlows

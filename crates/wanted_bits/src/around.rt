@@ -2,9 +2,12 @@
 ghost use Rattle.std.specs.Prelude.{◌≡◌, ◌≤◌, ◌↔◌, ◌++◌, ◌∷◌, [], false, length, max, replicate, slice_set, IfOk, OnOk};
 ghost use Rattle.wanted_bits.specs.BitsOrder.{HasFew, joined_bits};
 ghost use Rattle.wanted_bits.specs.Asking.{argument_at, global_at, width_at};
+ghost use Rattle.wanted_bits.specs.KeptRows.{RaisesBelow};
 ghost use Rattle.wanted_bits.specs.Walking.{bits_at};
 
 use crate::lists::raise_each;
+use crate::news::SomeVariables;
+use crate::raises::raise_some;
 use mir_base::Memory;
 use std::alloc::Global;
 use std::marker::Model;
@@ -101,6 +104,30 @@ impl Widths {
         ensures unchanged { (result ≡ false) ↔ (self.new ≡ self.old) }
     {
         raise_each(self.bits.as_mut_slice(), others.bits.as_slice())
+    }
+
+    /// The numbers.
+    pub(crate) fn bits(&self) -> &[u8]
+        ensures numbers { result.now ≡ self.now }
+        ensures few { HasFew result.now }
+    {
+        self.bits.as_slice()
+    }
+
+    /// Raises the numbers of some variables to at least the others, puts those that rose among the news, and answers
+    /// whether there are any.
+    pub(crate) fn raise_some(
+        &mut self,
+        others: &[u8],
+        some: &SomeVariables,
+        more: &SomeVariables,
+        news: &mut SomeVariables,
+    ) -> bool
+        requires long { length others.now ≡ length self.old }
+        requires few { HasFew others.now }
+        ensures { RaisesBelow others.now self.old self.new }
+    {
+        raise_some(self.bits.as_mut_slice(), others, some, more, news)
     }
 }
 

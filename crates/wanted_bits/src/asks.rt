@@ -134,7 +134,7 @@ fn ask_all(
 /// Writes into `asks`, at each node of a block, what it asks of other units (`None` but at Start and calls). `bits` has
 /// what is wanted behind the block; the walk goes from the last node to the first, and leaves there what is wanted
 /// before it.
-fn ask_block(
+pub(crate) fn ask_block(
     alloc: Global,
     asks: &mut [Option<Widths>],
     bits: &mut [u8],

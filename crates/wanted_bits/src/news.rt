@@ -45,6 +45,29 @@ impl SomeVariables {
         })
     }
 
+    /// None, with room for so many. It fails only with `Memory`.
+    pub(crate) fn with_room(alloc: Global, most: usize) -> Result<SomeVariables, Memory>
+        ensures { IfOk result IsNoneNew }
+    {
+        let listed = Vec::with_capacity(alloc, most)?;
+        Ok(SomeVariables {
+            whole: false,
+            listed,
+        })
+    }
+
+    /// Takes the place of these variables, and leaves none there, or all, where there is no room for them.
+    pub(crate) fn take_over(&mut self, others: &mut SomeVariables) {
+        self.settle();
+        if others.whole {
+            self.whole = true;
+        }
+        for i in 0..others.listed.len() {
+            self.note(others.listed[i]);
+        }
+        others.settle();
+    }
+
     /// The same variables, with room for no more. It fails only with `Memory`.
     pub(crate) fn copied(&self, alloc: Global) -> Result<SomeVariables, Memory>
         ensures { IfOk result (λ copy. copy ≡ self.now) }

@@ -1,6 +1,7 @@
 // Numbers that are taken over and raised, and which of them rose.
 ghost use Rattle.std.specs.Prelude.{◌≡◌, ◌↔◌, ◌≤◌, ◌∷◌, [], false, length};
 ghost use Rattle.wanted_bits.specs.BitsOrder.{joined_bits};
+ghost use Rattle.wanted_bits.specs.KeptRows.{RaisesBelow};
 ghost use Rattle.wanted_bits.specs.NewsShapes.{KeepsRaised};
 ghost use Rattle.wanted_bits.specs.Touching.{raised_bits, taken_bits};
 ghost use Rattle.wanted_bits.specs.Walking.{bits_at, raised_at};
@@ -74,5 +75,26 @@ fn raise_one(bits: &mut [u8], others: &[u8], x: usize, news: &mut SomeVariables)
         true
     } else {
         false
+    }
+}
+
+/// The same for two lots of variables, or for all where one of them is all; no more is said of it than that no number is
+/// raised too far.
+pub(crate) fn raise_some(
+    bits: &mut [u8],
+    others: &[u8],
+    some: &SomeVariables,
+    more: &SomeVariables,
+    news: &mut SomeVariables,
+) -> bool
+    requires { length others.now ≡ length bits.old }
+    ensures { RaisesBelow others.now bits.old bits.new }
+{
+    if some.are_all() || more.are_all() {
+        raise_noting(bits, others, news)
+    } else {
+        let one = raise_listed(bits, others, some.listed(), news);
+        let other = raise_listed(bits, others, more.listed(), news);
+        one | other
     }
 }

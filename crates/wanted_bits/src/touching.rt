@@ -34,7 +34,7 @@ pub(crate) fn touched(
 }
 
 /// The same, each noted first where there is room.
-fn touched_by(
+pub(crate) fn touched_by(
     alloc: Global,
     graph: &Graph,
     blocks: &Blocks,
