@@ -4,6 +4,7 @@ pub mod Marks
 pub mod Fresh
 pub mod Prepares
 pub mod UnitServes
+pub mod UnitHastens
 pub mod FirstZeros
 pub mod RunsBeside
 pub mod TakenOver

@@ -39,13 +39,13 @@ entry_number : (asks : List (Option (List ℕ))) (l : List ℕ) (x k : ℕ) → 
 entry_number asks l x k e lt is most = entry_width asks l x e ∙ omega (arith, get_or_default_zero l x 64 lt, is, most)
 
 -- the number of an item of a list
-map_at : (f : ℕ → ℕ) (xs : List ℕ) (i x : ℕ) → slice_get xs i ≡ Some x → bits_at (map f xs) i ≡ f x
+pub map_at : (f : ℕ → ℕ) (xs : List ℕ) (i x : ℕ) → slice_get xs i ≡ Some x → bits_at (map f xs) i ≡ f x
 map_at f [] i x e = cc
 map_at f (y ∷ xs) zero x e = let same : y ≡ x = cc in ap f same
 map_at f (y ∷ xs) (suc i) x e = map_at f xs i x e
 
 -- and where there is none
-map_most : (f : ℕ → ℕ) (xs : List ℕ) → ((x : ℕ) → f x ≤ 64) → HasFew (map f xs)
+pub map_most : (f : ℕ → ℕ) (xs : List ℕ) → ((x : ℕ) → f x ≤ 64) → HasFew (map f xs)
 map_most f [] most i = omega arith
 map_most f (y ∷ xs) most zero = most y
 map_most f (y ∷ xs) most (suc i) = map_most f xs most i
@@ -57,11 +57,11 @@ entry_most (None ∷ asks) x = omega arith
 entry_most (Some l ∷ asks) x = omega arith
 
 -- rows that keep their lengths
-rows_stay : (graphs : List GraphShape) (count : GraphShape → ℕ) (old new : List (List ℕ)) → AreNumberRows graphs count old → StayLong old new → AreNumberRows graphs count new
+pub rows_stay : (graphs : List GraphShape) (count : GraphShape → ℕ) (old new : List (List ℕ)) → AreNumberRows graphs count old → StayLong old new → AreNumberRows graphs count new
 rows_stay graphs count old new are stay = record { long = stay.long ∙ are.long; each = λ u graph at. (stay.each u ∙ (are.each u graph at).0, stay.few u) }
 
 -- all rows have few numbers
-rows_few : (graphs : List GraphShape) (count : GraphShape → ℕ) (rows : List (List ℕ)) → AreNumberRows graphs count rows → (u : ℕ) → HasFew (list_at rows u)
+pub rows_few : (graphs : List GraphShape) (count : GraphShape → ℕ) (rows : List (List ℕ)) → AreNumberRows graphs count rows → (u : ℕ) → HasFew (list_at rows u)
 rows_few graphs count rows are u = elim (cases_lt u (length graphs)) [
   | inl lt ↦ (are.each u (slice_index_or graphs u blank) (slice_get-get_or graphs u blank lt)).1
   | inr ge ↦ (λ x. (let none : list_at rows u ≡ [] = get_or_past rows u [] (omega (arith, ge, are.long)) in omega (arith, ap (λ l. bits_at l x) none)))

@@ -12,3 +12,4 @@ pub mod ProgramRemoves
 pub mod UnitPaths
 pub mod WantedProgramLaws
 pub mod Tables
+pub mod Hastening

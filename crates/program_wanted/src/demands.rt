@@ -1,11 +1,12 @@
 // The least numbers of bits that the units of a program ask of one another.
-ghost use Rattle.std.specs.Prelude.{◌≡◌, ◌<◌, length, IfOk, OnOk};
+ghost use Rattle.std.specs.Prelude.{◌≡◌, ◌<◌, true, length, IfOk, OnOk};
 ghost use Rattle.unit_callers.specs.Calling.{AreUnitCallers};
 ghost use Rattle.program_wanted.specs.Demands.{AreLeastDemands, IsAround};
 ghost use Rattle.program_wanted.specs.Serving.{CanServe, IsServing};
 ghost use Rattle.program_wanted.specs.Sweeps.{FitTogether, IsProgress, Sweeps};
 ghost use Rattle.program_wanted.specs.Tables.{demands_of};
 
+use crate::hastening::hasten;
 use crate::preparing::all_prepared;
 use crate::raising::{UnitAsks, nothing_asked};
 use crate::serving::serve_stale;
@@ -50,7 +51,8 @@ pub(crate) fn least_demands(alloc: Global, graphs: &Vec<Graph>) -> Result<Tables
     Ok(served)
 }
 
-/// These demands, raised until they serve all units.
+/// These demands, raised until they serve all units: by some sweeps, which most programs want no more of, then by what
+/// is kept of the units, and by sweeps until nothing is raised.
 fn served(
     alloc: Global,
     graphs: &Vec<Graph>,
@@ -64,20 +66,83 @@ fn served(
 {
     let mut tables = first;
     let prepared = all_prepared(alloc, graphs)?;
+    let done = sweep_often(alloc, graphs, &prepared, callers, &mut tables, FIRST_SWEEPS)?;
+    if done {
+        return Ok(tables);
+    }
+    finish(alloc, graphs, &prepared, callers, &mut tables)?;
+    Ok(tables)
+}
+
+/// So many sweeps come first.
+const FIRST_SWEEPS: usize = 4;
+
+/// At most so many sweeps, and whether the last raised nothing.
+fn sweep_often(
+    alloc: Global,
+    graphs: &Vec<Graph>,
+    prepared: &Vec<Prepared>,
+    callers: &Vec<Callers>,
+    tables: &mut Tables,
+    most: usize,
+) -> Result<bool, Memory>
+    requires units { CanServe graphs.now.items prepared.now.items callers.now.items }
+    requires progress { IsProgress graphs.now.items (demands_of tables.old) }
+    ensures progress { OnOk result (IsProgress graphs.now.items (demands_of tables.new)) }
+    ensures done { IfOk result (λ done. done ≡ true →
+        AreLeastDemands graphs.now.items (demands_of tables.new)) }
+{
+    let mut asks = nothing_asked(alloc, graphs)?;
+    let mut stale = vec![in alloc; true; graphs.len()]?;
+    for count in 0..most {
+        let _ = count;
+        let raised = sweep(
+            alloc, graphs, prepared, callers, tables, &mut stale, &mut asks,
+        )?;
+        if !raised {
+            return Ok(true);
+        }
+    }
+    Ok(false)
+}
+
+/// Hastens, and sweeps until nothing is raised.
+fn finish(
+    alloc: Global,
+    graphs: &Vec<Graph>,
+    prepared: &Vec<Prepared>,
+    callers: &Vec<Callers>,
+    tables: &mut Tables,
+) -> Result<(), Memory>
+    requires units { CanServe graphs.now.items prepared.now.items callers.now.items }
+    requires progress { IsProgress graphs.now.items (demands_of tables.old) }
+    ensures { OnOk result (AreLeastDemands graphs.now.items (demands_of tables.new)) }
+{
+    hasten(alloc, graphs, prepared, callers, tables)?;
+    sweep_on(alloc, graphs, prepared, callers, tables)?;
+    Ok(())
+}
+
+/// Sweeps until nothing is raised.
+fn sweep_on(
+    alloc: Global,
+    graphs: &Vec<Graph>,
+    prepared: &Vec<Prepared>,
+    callers: &Vec<Callers>,
+    tables: &mut Tables,
+) -> Result<(), Memory>
+    requires units { CanServe graphs.now.items prepared.now.items callers.now.items }
+    requires progress { IsProgress graphs.now.items (demands_of tables.old) }
+    ensures { OnOk result (AreLeastDemands graphs.now.items (demands_of tables.new)) }
+{
     let mut asks = nothing_asked(alloc, graphs)?;
     let mut stale = vec![in alloc; true; graphs.len()]?;
     loop {
         let raised = sweep(
-            alloc,
-            graphs,
-            &prepared,
-            callers,
-            &mut tables,
-            &mut stale,
-            &mut asks,
+            alloc, graphs, prepared, callers, tables, &mut stale, &mut asks,
         )?;
         if !raised {
-            return Ok(tables);
+            return Ok(());
         }
     }
 }

@@ -9,6 +9,7 @@
 #![tactic(auto)]
 
 mod demands;
+mod hastening;
 mod preparing;
 mod programs;
 mod raising;

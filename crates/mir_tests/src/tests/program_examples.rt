@@ -442,6 +442,77 @@ $ run 1000 3
 Ended(1) 7 []
 $ demanded run 1000 3
 Ended(1) 4 []
+# each call hands the globals on by one place, so that it takes several to know that all but one are wanted
+global g0
+global g1
+global g2
+global g3
+global g4
+global g5
+global g6
+global g7
+global g8
+global g9
+global h
+main: begin
+receive n(val)
+g9 <- n * 3
+call on,(n,int)
+print g0
+return n
+end
+on: begin
+receive k(val)
+if k < 1 goto L1
+g0 <- g1
+g1 <- g2
+g2 <- g3
+g3 <- g4
+g4 <- g5
+g5 <- g6
+g6 <- g7
+g7 <- g8
+g8 <- g9
+h <- h + k
+k <- k - 1
+call on,(k,int)
+L1: return 0
+end
+$ demanded
+global g0
+global g1
+global g2
+global g3
+global g4
+global g5
+global g6
+global g7
+global g8
+global g9
+global h
+main: begin
+receive n(val)
+g9 <- n * 3
+call on,(n,int)
+print g0
+return n
+end
+on: begin
+receive k(val)
+if k < 1 goto L1
+g0 <- g1
+g1 <- g2
+g2 <- g3
+g3 <- g4
+g4 <- g5
+g5 <- g6
+g6 <- g7
+g7 <- g8
+g8 <- g9
+k <- k - 1
+call on,(k,int)
+L1: return 0
+end
 # what is known of an argument and of a global decides tests in the called unit, and what it hands back one of the caller
 global limit
 main: begin

@@ -2,7 +2,7 @@ use Rattle.std.proofs.Common.{◌≡◌, ◌∙◌, true, length, replicate, ap,
 use Rattle.program_wanted.specs.Sweeps.{Sweeps}
 use Rattle.program_wanted.specs.Tables.{demands_of}
 use Rattle.program_wanted.proofs.UnitServes.{all_stale, least_at_rest}
-use Rattle.program_wanted.proofs.demands.served.Goals as goal
+use Rattle.program_wanted.proofs.demands.sweep_on.Goals as goal
 
 pub loop-stale-init : goal.loop-stale-init
 loop-stale-init c =
@@ -10,7 +10,7 @@ loop-stale-init c =
     let count : c.len.result ≡ length graphs.items = omega (arith, c.len.ensures, graphs.ok.0) in
     record {
       progress = c.requires.progress;
-      fresh = all_stale graphs.items (demands_of c.args.first) c.in_ok-stale.stale.items (c.in_ok-stale.ensures.items_if_clones_equal (λ y e. e) ∙ ap (λ n. replicate n true) count);
+      fresh = all_stale graphs.items (demands_of c.args.tables.now) c.in_ok-stale.stale.items (c.in_ok-stale.ensures.items_if_clones_equal (λ y e. e) ∙ ap (λ n. replicate n true) count);
       asks = c.in_ok-asks.ensures;
     }
 
@@ -20,6 +20,3 @@ returns-then-not-raised c =
     let old = demands_of c.loop-stale.tables in
     let after = demands_of c.sweep.new.tables in
     least_at_rest graphs old after (subst (Sweeps graphs old after) c.if-not-raised.true c.in_ok-raised.ensures.swept)
-
-pub sweep-requires-clause-units : goal.sweep-requires-clause-units
-sweep-requires-clause-units c = record { fit = c.requires.fit; prepared = c.in_ok-prepared.ensures; callers = c.requires.callers }

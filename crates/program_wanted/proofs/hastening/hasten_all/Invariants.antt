@@ -1,0 +1,10 @@
+use Rattle.program_wanted.specs.Hastening.{AreKept}
+use Rattle.program_wanted.specs.Sweeps.{IsProgress}
+use Rattle.program_wanted.specs.Tables.{demands_of}
+use Rattle.program_wanted.proofs.hastening.hasten_all.Given as goal
+
+abbrev pub invariant-loop-count : goal.invariant-loop-count
+invariant-loop-count l = record {
+  progress : IsProgress l.graphs.items (demands_of l.tables);
+  kept : AreKept l.graphs.items l.prepared.items l.kept.items;
+}
