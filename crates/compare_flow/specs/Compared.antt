@@ -1,6 +1,6 @@
 -- The graph in which tests of variables that hold comparisons are the comparisons. Cited by contracts, those of
 -- pass_chain too.
-use Rattle.std.specs.Prelude.{◌≡◌, ℕ, ◌<◌, Bool, List, length, slice_get, Option, Some, None, option_map}
+use Rattle.std.specs.Prelude.{ℕ, Bool, Option, Some, None}
 use Rattle.std.specs.Option.{unwrap_or}
 use Rattle.mir_base.specs.declared.instructions.Rhs.{Rhs}
 use Rattle.mir_base.specs.declared.instructions.Test.{Test as Condition}
@@ -8,6 +8,7 @@ use Rattle.flow_graph.specs.declared.nodes.Node.{Node}
 use Rattle.flow_graph.specs.declared.nodes.Node.TheVariants.{Start, Skip, Assign, Print, Guard, Call, Test, Return}
 use Rattle.flow_graph.specs.Graphs.{GraphShape}
 use Rattle.held_assign.specs.Holding.{IsHeldRhs}
+use Rattle.held_assign.specs.HeldPasses.{IsMadeByHeld, IsOnlyMadeByHeld}
 use Rattle.compare_flow.specs.declared.truths.Asked.{Asked}
 use Rattle.compare_flow.specs.Truths.{asked_in, is_comparison, truth_test}
 
@@ -44,21 +45,11 @@ compared_node held (Return a) = Return a
 abbrev pub IsHeldComparison : GraphShape → ℕ → ℕ → Option Rhs → Type 0
 IsHeldComparison graph n v rhs = IsHeldRhs (λ x t. is_comparison t) graph n v rhs
 
--- each node with the comparisons that hold before it, all decided on the nodes as they were
-pub record AreCompared (graph : GraphShape) (nodes : List Node) : Type 0 where
-  pub held : ℕ → ℕ → Option Rhs
-  pub is_held : (n v : ℕ) → n < length graph.nodes → IsHeldComparison graph n v (held n v)
-  pub nodes_are : (n : ℕ)
-      → slice_get nodes n ≡ option_map (compared_node (held n)) (slice_get graph.nodes n)
-
--- the graph with these nodes in the place of the old ones
-pub record IsCompared (graph compared : GraphShape) : Type 0 where
-  pub name_is : compared.name ≡ graph.name
-  pub shared_is : compared.shared ≡ graph.shared
-  pub vars_are : compared.vars ≡ graph.vars
-  pub received_are : compared.received ≡ graph.received
-  pub nodes_are : AreCompared graph compared.nodes
+-- the graph with such nodes by the comparisons that hold before each
+abbrev pub IsCompared : GraphShape → GraphShape → Type 0
+IsCompared graph compared = IsMadeByHeld (λ x t. is_comparison t) compared_node graph compared
 
 -- no other graph is the compared one
 abbrev pub IsOnlyCompared : GraphShape → GraphShape → Type 0
-IsOnlyCompared graph compared = (other : GraphShape) → IsCompared graph other → other ≡ compared
+IsOnlyCompared graph compared =
+    IsOnlyMadeByHeld (λ x t. is_comparison t) compared_node graph compared

@@ -1,4 +1,4 @@
 pub mod Truths
 pub mod Compared
-pub mod ComparedLaws
-pub mod ByRows
+pub mod Meaning
+pub mod Shapes

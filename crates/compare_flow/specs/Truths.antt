@@ -1,5 +1,5 @@
 -- What a test asks of a variable, and the test that asks for a comparison. Cited by contracts.
-use Rattle.std.specs.Prelude.{ℕ, Bool, true, false, ℤ, pos, Option, Some, None, option_map, if◌then◌else◌}
+use Rattle.std.specs.Prelude.{Bool, true, false, pos, Option, Some, None, option_map, if◌then◌else◌}
 use Rattle.std.specs.Option.{is_some}
 use Rattle.std.specs.Ordering.{int_eq}
 use Rattle.mir_base.specs.declared.operators.Op.{Op}
@@ -29,17 +29,17 @@ asked_of_zero (Var x) (Const c) holds = if int_eq c (pos 0) then asked_of (Var x
 asked_of_zero (Const c) b holds = if int_eq c (pos 0) then asked_of b holds else None
 
 -- of a relation
-abbrev pub asked_by : RelOp → Operand → Operand → Option Asked
-asked_by Equal a b = asked_of_zero a b false
-asked_by Differ a b = asked_of_zero a b true
-asked_by Below a b = None
-asked_by AtMost a b = None
-asked_by Above a b = None
-asked_by AtLeast a b = None
+abbrev pub asked_by_relation : RelOp → Operand → Operand → Option Asked
+asked_by_relation Equal a b = asked_of_zero a b false
+asked_by_relation Differ a b = asked_of_zero a b true
+asked_by_relation Below a b = None
+asked_by_relation AtMost a b = None
+asked_by_relation Above a b = None
+asked_by_relation AtLeast a b = None
 
 -- of which variable a test asks whether it is 0, where it asks that alone, and whether it holds where it is not
 abbrev pub asked_in : Test → Option Asked
-asked_in (Rel op a b) = asked_by op a b
+asked_in (Rel op a b) = asked_by_relation op a b
 asked_in (Holds a) = asked_of a true
 asked_in (Fails a) = asked_of a false
 

@@ -3,10 +3,9 @@ ghost use Rattle.std.specs.Prelude.{IfOk};
 ghost use Rattle.flow_graph.specs.Passes.{GraphDividesUnchanged, GraphKeeps, KeepsSplit, KeepsSuccs};
 ghost use Rattle.compare_flow.specs.Compared.{IsCompared, IsOnlyCompared};
 
-use crate::rewriting::compared_nodes;
 use crate::truths::PickComparisons;
 use flow_graph::Graph;
-use held_assign::HeldAssigns;
+use held_assign::made_by_held;
 use mir_base::Memory;
 use std::alloc::Global;
 
@@ -37,9 +36,6 @@ pub fn comparisons(alloc: Global, graph: &Graph) -> Result<Graph, Memory>
     ensures succs { IfOk result (KeepsSuccs graph.now) }
     ensures split { IfOk result (KeepsSplit graph.now) }
 {
-    let _nodes = graph.nodes();
-    let held = HeldAssigns::of(alloc, graph, &PickComparisons)?;
-    let nodes = compared_nodes(alloc, graph, &held)?;
-    let compared = graph.with_nodes(alloc, nodes)?;
+    let compared = made_by_held(alloc, graph, &PickComparisons)?;
     Ok(compared)
 }

@@ -1,52 +1,46 @@
 // The nodes with comparisons in tests.
-ghost use Rattle.std.specs.Prelude.{◌≡◌, ◌<◌, length, IfOk};
+ghost use Rattle.std.specs.Prelude.{◌≡◌, ◌<◌, length};
 ghost use Rattle.held_assign.specs.Rows.{IsLookup, held_at};
 ghost use Rattle.compare_flow.specs.Compared.{compared_node, compared_test, truth_of};
-ghost use Rattle.compare_flow.specs.ByRows.{AreMade};
+ghost use Rattle.compare_flow.specs.Meaning.{compared_does};
+ghost use Rattle.compare_flow.specs.Shapes.{compared_in_place, compared_reads};
 ghost use Rattle.compare_flow.specs.Truths.{asked_in};
 
-use crate::truths::{asked_in, truth_test};
-use flow_graph::{Graph, Node};
-use held_assign::HeldAssigns;
+use crate::truths::{PickComparisons, asked_in, truth_test};
+use flow_graph::Node;
+use held_assign::{HeldAssigns, HeldPass};
 use mir_base::{Memory, Test};
 use std::alloc::Global;
 
-/// The nodes of a graph, in which a test of a variable that holds a comparison is the comparison.
-pub(crate) fn compared_nodes(
-    alloc: Global,
-    graph: &Graph,
-    held: &HeldAssigns,
-) -> Result<Vec<Node>, Memory>
-    requires { IsLookup (length graph.now.vars) (length graph.now.nodes) held.now }
-    ensures { IfOk result (λ nodes. AreMade held.now graph.now.nodes nodes.items) }
-{
-    let old = graph.nodes();
-    let mut nodes = Vec::with_capacity(alloc, old.len())?;
-    for n in 0..old.len() {
-        let node = compared_node(held, n, &old[n])?;
-        nodes.push(node)?;
-    }
-    Ok(nodes)
-}
+impl HeldPass for PickComparisons {
+    ghost becomes = { compared_node };
 
-/// What node n becomes. It fails only with `Memory`.
-fn compared_node(held: &HeldAssigns, n: usize, node: &Node) -> Result<Node, Memory>
-    requires lookup { IsLookup (length held.now.targets) (length held.now.held) held.now }
-    requires there { n < length held.now.held }
-    ensures { IfOk result (λ made. made ≡ compared_node (held_at held.now n) node.now) }
-{
-    match node {
-        Node::Guard(test, number, next) => {
-            Ok(Node::Guard(compared_test(held, n, *test), *number, *next))
-        }
-        Node::Test(test, taken, other) => {
-            Ok(Node::Test(compared_test(held, n, *test), *taken, *other))
-        }
-        _ => {
-            let same = node.clone()?;
-            Ok(same)
+    fn node(
+        &self,
+        _alloc: Global,
+        held: &HeldAssigns,
+        n: usize,
+        node: &Node,
+    ) -> Result<Node, Memory> {
+        match node {
+            Node::Guard(test, number, next) => {
+                Ok(Node::Guard(compared_test(held, n, *test), *number, *next))
+            }
+            Node::Test(test, taken, other) => {
+                Ok(Node::Test(compared_test(held, n, *test), *taken, *other))
+            }
+            _ => {
+                let same = node.clone()?;
+                Ok(same)
+            }
         }
     }
+
+    ghost in_place = { compared_in_place };
+
+    ghost reads = { compared_reads };
+
+    ghost does = { λ pass. compared_does };
 }
 
 /// What a test becomes at node n.

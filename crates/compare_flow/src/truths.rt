@@ -1,6 +1,6 @@
 // What a test asks of a variable, and the test that asks for a comparison.
 ghost use Rattle.std.specs.Prelude.{◌≡◌};
-ghost use Rattle.compare_flow.specs.Truths.{asked_in, asked_by, asked_of, asked_of_zero, denied, is_comparison, relation_of, relation_test, truth_test};
+ghost use Rattle.compare_flow.specs.Truths.{asked_in, asked_by_relation, asked_of, asked_of_zero, denied, is_comparison, relation_of, relation_test, truth_test};
 
 use held_assign::Picks;
 use mir_base::{Op, Operand, RelOp, Rhs, Test, UnOp};
@@ -21,15 +21,15 @@ pub(crate) fn asked_in(test: Test) -> Option<Asked>
     ensures { result ≡ asked_in test }
 {
     match test {
-        Test::Rel(op, a, b) => asked_by(op, a, b),
+        Test::Rel(op, a, b) => asked_by_relation(op, a, b),
         Test::Holds(a) => asked_of(a, true),
         Test::Fails(a) => asked_of(a, false),
     }
 }
 
 /// The same of a relation, one side of which is then the constant 0.
-fn asked_by(op: RelOp, a: Operand, b: Operand) -> Option<Asked>
-    ensures { result ≡ asked_by op a b }
+fn asked_by_relation(op: RelOp, a: Operand, b: Operand) -> Option<Asked>
+    ensures { result ≡ asked_by_relation op a b }
 {
     match op {
         RelOp::Eq => asked_of_zero(a, b, false),

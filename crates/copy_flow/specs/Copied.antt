@@ -1,11 +1,12 @@
 -- The graph in which copies give way to what they copy. Cited by contracts, those of mir_opt too.
-use Rattle.std.specs.Prelude.{◌≡◌, ℕ, ◌<◌, if◌then◌else◌, List, length, map, slice_get, option_map}
+use Rattle.std.specs.Prelude.{ℕ, if◌then◌else◌, map, Option}
 use Rattle.mir_base.specs.declared.instructions.Rhs.{Rhs}
 use Rattle.flow_graph.specs.declared.nodes.Node.{Node}
 use Rattle.flow_graph.specs.declared.nodes.Node.TheVariants.{Start, Skip, Assign, Print, Guard, Call, Test, Return}
 use Rattle.flow_graph.specs.Graphs.{GraphShape}
 use Rattle.flow_graph.specs.Numbering.{renamed_operand, renamed_rhs, renamed_test}
-use Rattle.copy_flow.specs.Copies.{IsReadFor, is_var}
+use Rattle.held_assign.specs.HeldPasses.{IsMadeByHeld, IsOnlyMadeByHeld}
+use Rattle.copy_flow.specs.Copies.{is_copy, is_var, read_for}
 
 -- ---- what a node becomes, where `read` tells for each variable which one is read in its place
 
@@ -25,23 +26,18 @@ reread_node read (Call into unit operands next) =
 reread_node read (Test test taken other) = Test (renamed_test read test) taken other
 reread_node read (Return a) = Return (renamed_operand read a)
 
+-- the node with the variables that are read where these right sides hold
+abbrev pub copied_node : (ℕ → Option Rhs) → Node → Node
+copied_node held node = reread_node (λ v. read_for v (held v)) node
+
 -- ---- the graph
 
--- each node with what is read at it in the place of each variable, all decided on the nodes as they were
-pub record AreCopied (graph : GraphShape) (nodes : List Node) : Type 0 where
-  pub read : ℕ → ℕ → ℕ
-  pub is_read : (n v : ℕ) → n < length graph.nodes → IsReadFor graph v (read n v) n
-  pub nodes_are : (n : ℕ)
-      → slice_get nodes n ≡ option_map (reread_node (read n)) (slice_get graph.nodes n)
-
--- the graph with these nodes in the place of the old ones
-pub record IsCopied (graph copied : GraphShape) : Type 0 where
-  pub name_is : copied.name ≡ graph.name
-  pub shared_is : copied.shared ≡ graph.shared
-  pub vars_are : copied.vars ≡ graph.vars
-  pub received_are : copied.received ≡ graph.received
-  pub nodes_are : AreCopied graph copied.nodes
+-- the graph with such nodes by the copies that hold before each: `v <- w` holds before node n where w is another variable
+-- than v, node n is reached, and on every path from Start to it there is, before n, a node `v <- w` after which, before
+-- n, no node assigns v or w
+abbrev pub IsCopied : GraphShape → GraphShape → Type 0
+IsCopied graph copied = IsMadeByHeld is_copy copied_node graph copied
 
 -- no other graph is the copied one
 abbrev pub IsOnlyCopied : GraphShape → GraphShape → Type 0
-IsOnlyCopied graph copied = (other : GraphShape) → IsCopied graph other → other ≡ copied
+IsOnlyCopied graph copied = IsOnlyMadeByHeld is_copy copied_node graph copied

@@ -1,11 +1,9 @@
 -- Copies: after `v <- w` the two variables have one value as long as neither is assigned, so w can be read in the place
 -- of v. Cited by contracts.
-use Rattle.std.specs.Prelude.{◌≡◌, ℕ, Bool, true, false, nat_eq, ◌⊎◌, Option, Some, None}
+use Rattle.std.specs.Prelude.{ℕ, Bool, true, false, nat_eq, Option, Some, None}
 use Rattle.mir_base.specs.declared.instructions.Operand.TheVariants.{Var, Const}
 use Rattle.mir_base.specs.declared.instructions.Rhs.{Rhs}
 use Rattle.mir_base.specs.declared.instructions.Rhs.TheVariants.{Plain, Unary, Binary}
-use Rattle.flow_graph.specs.Graphs.{GraphShape}
-use Rattle.held_assign.specs.Holding.{IsHeld}
 
 -- the assignment `v <- rhs` is a copy: its right side is a variable alone. That this is another one than v, `can_hold`
 -- asks
@@ -21,15 +19,6 @@ is_var w (Plain (Var x)) = nat_eq w x
 is_var w (Plain (Const c)) = false
 is_var w (Unary op a) = false
 is_var w (Binary op a b) = false
-
--- v is a copy of w at node n: `v <- w` holds before it. So w is another variable than v, node n is reached, and on every
--- path from Start to it there is, before n, a node `v <- w` after which, before n, no node assigns v or w
-abbrev pub IsCopyOf : GraphShape → ℕ → ℕ → ℕ → Type 0
-IsCopyOf graph v w n = IsHeld graph v (Plain (Var w)) n
-
--- w is read in the place of v at node n: the variable of which v is a copy there, or v itself where there is none
-abbrev pub IsReadFor : GraphShape → ℕ → ℕ → ℕ → Type 0
-IsReadFor graph v w n = IsCopyOf graph v w n ⊎ ((w ≡ v) × ((u : ℕ) → IsCopyOf graph v u n → ⊥))
 
 -- the variable that is read for v where this right side holds for it: the one that it is, or v itself where it is none
 abbrev pub read_for : ℕ → Option Rhs → ℕ

@@ -4,9 +4,8 @@ ghost use Rattle.flow_graph.specs.Passes.{GraphDivides, GraphKeeps, KeepsSplit, 
 ghost use Rattle.copy_flow.specs.Copied.{IsCopied, IsOnlyCopied};
 
 use crate::picking::PickCopies;
-use crate::rereading::reread_nodes;
 use flow_graph::Graph;
-use held_assign::HeldAssigns;
+use held_assign::made_by_held;
 use mir_base::Memory;
 use std::alloc::Global;
 
@@ -33,10 +32,7 @@ pub fn copies(alloc: Global, graph: &Graph) -> Result<Graph, Memory>
     ensures succs { IfOk result (KeepsSuccs graph.now) }
     ensures split { IfOk result (KeepsSplit graph.now) }
 {
-    let _nodes = graph.nodes();
-    let held = HeldAssigns::of(alloc, graph, &PickCopies)?;
-    let nodes = reread_nodes(alloc, graph, &held)?;
-    let copied = graph.with_nodes(alloc, nodes)?;
+    let copied = made_by_held(alloc, graph, &PickCopies)?;
     Ok(copied)
 }
 

@@ -1,34 +1,37 @@
 // The nodes with what is read in the place of copies.
-ghost use Rattle.std.specs.Prelude.{◌≡◌, length, map, IfOk};
+ghost use Rattle.std.specs.Prelude.{◌≡◌, map, IfOk};
 ghost use Rattle.flow_graph.specs.Numbering.{renamed_operand, renamed_rhs, renamed_test};
-ghost use Rattle.held_assign.specs.Rows.{IsLookup};
-ghost use Rattle.copy_flow.specs.Copied.{assigned_unless_itself, reread_node};
-ghost use Rattle.copy_flow.specs.ByRows.{AreReread, IsAtNode, read_at};
+ghost use Rattle.copy_flow.specs.Copied.{assigned_unless_itself, copied_node, reread_node};
+ghost use Rattle.copy_flow.specs.ByRows.{IsAtNode, read_at};
+ghost use Rattle.copy_flow.specs.Meaning.{copied_does};
+ghost use Rattle.copy_flow.specs.Shapes.{copied_in_place, copied_reads};
 
-use crate::picking::{is_var, read_for};
-use flow_graph::{Graph, Node};
-use held_assign::HeldAssigns;
+use crate::picking::{PickCopies, is_var, read_for};
+use flow_graph::Node;
+use held_assign::{HeldAssigns, HeldPass};
 use mir_base::{Args, Memory, Operand, Rhs, Test};
 use std::alloc::Global;
 
-/// The nodes of a graph, in which what a copy is of is read in its place, and a Skip stands where a variable would be
-/// assigned to itself.
-pub(crate) fn reread_nodes(
-    alloc: Global,
-    graph: &Graph,
-    held: &HeldAssigns,
-) -> Result<Vec<Node>, Memory>
-    requires { IsLookup (length graph.now.vars) (length graph.now.nodes) held.now }
-    ensures { IfOk result (λ nodes. AreReread held.now graph.now.nodes nodes.items) }
-{
-    let old = graph.nodes();
-    let mut nodes = Vec::with_capacity(alloc, old.len())?;
-    for n in 0..old.len() {
+impl HeldPass for PickCopies {
+    ghost becomes = { copied_node };
+
+    fn node(
+        &self,
+        alloc: Global,
+        held: &HeldAssigns,
+        n: usize,
+        node: &Node,
+    ) -> Result<Node, Memory> {
         let at = HeldAt { held, node: n };
-        let node = at.node(alloc, &old[n])?;
-        nodes.push(node)?;
+        let made = at.node(alloc, node)?;
+        Ok(made)
     }
-    Ok(nodes)
+
+    ghost in_place = { copied_in_place };
+
+    ghost reads = { copied_reads };
+
+    ghost does = { λ pass. copied_does };
 }
 
 /// The copies of a graph, looked up at a node.

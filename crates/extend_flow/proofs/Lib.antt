@@ -1,4 +1,3 @@
-pub mod Making
 pub mod Meaning
 pub mod Numbers
 pub mod Shapes

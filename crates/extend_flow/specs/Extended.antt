@@ -7,6 +7,7 @@ use Rattle.flow_graph.specs.declared.nodes.Node.{Node}
 use Rattle.flow_graph.specs.declared.nodes.Node.TheVariants.{Start, Skip, Assign, Print, Guard, Call, Test, Return}
 use Rattle.flow_graph.specs.Graphs.{GraphShape}
 use Rattle.held_assign.specs.Holding.{IsHeldRhs}
+use Rattle.held_assign.specs.InPlace.{HasNodes}
 use Rattle.bounds.specs.declared.facts.Fact.{Fact}
 use Rattle.bounds.specs.BoundRules.{bound_rules}
 use Rattle.bounds.specs.Edges.{fact_at}
@@ -67,12 +68,8 @@ pub record AreExtended (graph : GraphShape) (nodes : List Node) : Type 0 where
   pub nodes_are : (n : ℕ) → IsExtendedAt graph (held n) n (slice_get nodes n)
 
 -- the graph with these nodes in the place of the old ones
-pub record IsExtended (graph extended : GraphShape) : Type 0 where
-  pub name_is : extended.name ≡ graph.name
-  pub shared_is : extended.shared ≡ graph.shared
-  pub vars_are : extended.vars ≡ graph.vars
-  pub received_are : extended.received ≡ graph.received
-  pub nodes_are : AreExtended graph extended.nodes
+abbrev pub IsExtended : GraphShape → GraphShape → Type 0
+IsExtended graph extended = HasNodes (AreExtended graph) graph extended
 
 -- no other graph is the extended one
 abbrev pub IsOnlyExtended : GraphShape → GraphShape → Type 0

@@ -6,8 +6,9 @@ use Rattle.mir_base.specs.declared.instructions.Rhs.{Rhs}
 use Rattle.flow_graph.specs.declared.nodes.Node.{Node}
 use Rattle.flow_graph.specs.declared.nodes.Node.TheVariants.{Start, Skip, Assign, Print, Guard, Call, Test, Return}
 use Rattle.flow_graph.specs.Graphs.{GraphShape}
-use Rattle.flow_graph.specs.OneLaws.{same_graphs, same_places}
+use Rattle.flow_graph.specs.OneLaws.{same_places}
 use Rattle.held_assign.specs.HeldLaws.{held_rhs_is_one}
+use Rattle.held_assign.specs.InPlaceLaws.{has_nodes_one}
 use Rattle.bounds.specs.declared.facts.Fact.{Fact}
 use Rattle.bounds.specs.BoundRuleLaws.{bound_laws}
 use Rattle.cond_flow.specs.BecomingLaws.{known_is_one}
@@ -61,6 +62,4 @@ nodes_are_one graph nodes other p q = same_places nodes other (λ n. by n (slice
 
 -- a graph has one extended graph
 pub extended_is_one : (graph a b : GraphShape) → IsExtended graph a → IsExtended graph b → a ≡ b
-extended_is_one graph a b p q =
-    same_graphs a b (p.name_is ∙ sym q.name_is) (p.shared_is ∙ sym q.shared_is) (p.vars_are ∙ sym q.vars_are)
-    (p.received_are ∙ sym q.received_are) (nodes_are_one graph a.nodes b.nodes p.nodes_are q.nodes_are)
+extended_is_one graph = has_nodes_one (AreExtended graph) (nodes_are_one graph) graph

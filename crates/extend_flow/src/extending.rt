@@ -8,7 +8,7 @@ use crate::shifts::PickShifts;
 use bounds::Fact;
 use cond_flow::states_hold;
 use flow_graph::{Graph, Node};
-use held_assign::{HeldAssigns, held_values};
+use held_assign::{HeldAssigns, held_values, made_in_place};
 use mir_base::Memory;
 use std::alloc::Global;
 
@@ -40,11 +40,10 @@ pub fn extensions(alloc: Global, graph: &Graph) -> Result<Graph, Memory>
     ensures succs { IfOk result (KeepsSuccs graph.now) }
     ensures split { IfOk result (KeepsSplit graph.now) }
 {
-    let _nodes = graph.nodes();
     held_values(graph);
     states_hold::<Fact>(graph);
     let nodes = extended_nodes(alloc, graph)?;
-    let extended = graph.with_nodes(alloc, nodes)?;
+    let extended = made_in_place(alloc, graph, nodes)?;
     Ok(extended)
 }
 

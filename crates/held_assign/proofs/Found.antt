@@ -1,15 +1,14 @@
 -- An assignment that holds somewhere is a node of the graph, so it stands in the table, and the right side that holds is
 -- found by its row, at the first bit that the rows of node and variable share.
-use Rattle.std.proofs.Common.{◌≡◌, ℕ, zero, suc, ◌<◌, ◌≤◌, ◌⊎◌, inl, inr, Bool, true, false, if◌then◌else◌, nat_eq, ◌&&◌, eqb-true, eq-eqb, Contains, List, [], ◌∷◌, length, slice_get, Option, Some, None, refl, sym, ap, ◌∙◌, subst, true≢false, arith}
+use Rattle.std.proofs.Common.{◌≡◌, ℕ, zero, suc, ◌<◌, ◌≤◌, ◌⊎◌, inl, inr, Bool, true, false, if◌then◌else◌, nat_eq, ◌&&◌, eqb-true, eq-eqb, Contains, List, [], ◌∷◌, length, slice_get, Some, None, refl, sym, ap, ◌∙◌, subst, true≢false, arith}
 use Rattle.std.proofs.lemmas.Bool.{and_from, and_parts}
 use Rattle.std.proofs.lemmas.Option.{slice_get-get_or}
 use Rattle.mir_base.specs.declared.instructions.Rhs.{Rhs}
 use Rattle.bit_rows.specs.Bits.{row_bit, row_of}
-use Rattle.flow_graph.specs.declared.nodes.Node.{Node}
 use Rattle.flow_graph.specs.Graphs.{GraphShape}
 use Rattle.key_rows.specs.KeyRows.{key_in}
 use Rattle.held_assign.specs.declared.table.Assignment.{Assignment}
-use Rattle.held_assign.specs.Assignments.{AreHoldable, HasAssignments, assignment_of}
+use Rattle.held_assign.specs.Assignments.{AreHoldable, HasAssignments, picked_of}
 use Rattle.held_assign.specs.HeldLaws.{held_node}
 use Rattle.held_assign.specs.Holding.{IsHeld, IsHeldRhs}
 use Rattle.held_assign.specs.Rows.{AreHeldRows, AreTargetRows, HaveNoneShared, IsFirstShared, held_in, in_both}
@@ -19,7 +18,7 @@ use Rattle.held_assign.proofs.Holdable.{key_of_assign}
 in_table : (picked : ℕ → Rhs → Bool) (graph : GraphShape) (table : List Assignment) → HasAssignments picked graph.nodes table → (v : ℕ) (rhs : Rhs) (n : ℕ) → picked v rhs ≡ true → IsHeld graph v rhs n → Contains table (record { target = v; rhs = rhs })
 in_table picked graph table all v rhs n chosen held =
     let node = held_node graph v rhs n held in
-    all node.0 (record { target = v; rhs = rhs }) (ap (key_in (assignment_of picked)) node.2 ∙ key_of_assign picked v rhs node.1 chosen held.can)
+    all node.0 (record { target = v; rhs = rhs }) (ap (key_in (picked_of picked)) node.2 ∙ key_of_assign picked v rhs node.1 chosen held.can)
 
 -- ---- what holds by a row
 

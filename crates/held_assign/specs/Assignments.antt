@@ -14,15 +14,15 @@ picked_assignment picked x rhs =
     if picked x rhs && can_hold x rhs then Some (record { target = x; rhs = rhs }) else None
 
 -- the picked assignment that a node is
-abbrev pub assignment_of : (ℕ → Rhs → Bool) → Node → Option Assignment
-assignment_of picked (Start next) = None
-assignment_of picked (Skip next) = None
-assignment_of picked (Assign x rhs next) = picked_assignment picked x rhs
-assignment_of picked (Print a next) = None
-assignment_of picked (Guard test number next) = None
-assignment_of picked (Call into unit operands next) = None
-assignment_of picked (Test test taken other) = None
-assignment_of picked (Return a) = None
+abbrev pub picked_of : (ℕ → Rhs → Bool) → Node → Option Assignment
+picked_of picked (Start next) = None
+picked_of picked (Skip next) = None
+picked_of picked (Assign x rhs next) = picked_assignment picked x rhs
+picked_of picked (Print a next) = None
+picked_of picked (Guard test number next) = None
+picked_of picked (Call into unit operands next) = None
+picked_of picked (Test test taken other) = None
+picked_of picked (Return a) = None
 
 -- the variables of an assignment
 abbrev pub assignment_vars : Assignment → List ℕ
@@ -42,16 +42,16 @@ AreHoldable picked vars table = (i : ℕ) (a : Assignment) → slice_get table i
 -- each picked assignment that a node is stands in the table
 abbrev pub HasAssignments : (ℕ → Rhs → Bool) → List Node → List Assignment → Type 0
 HasAssignments picked nodes table = (n : ℕ) (a : Assignment)
-    → HasKey (assignment_of picked) nodes a n → Contains table a
+    → HasKey (picked_of picked) nodes a n → Contains table a
 
 -- each assignment of the table is picked, and some node is it
 abbrev pub HasOnlyAssignments : (ℕ → Rhs → Bool) → List Node → List Assignment → Type 0
 HasOnlyAssignments picked nodes table = (a : Assignment) → Contains table a
-    → (n : ℕ) × HasKey (assignment_of picked) nodes a n
+    → (n : ℕ) × HasKey (picked_of picked) nodes a n
 
 -- of any two assignments of the table, a node that is the earlier one stands before each node that is the later one
 abbrev pub AreInOrder : (ℕ → Rhs → Bool) → List Node → List Assignment → Type 0
 AreInOrder picked nodes table = (i j : ℕ) (a b : Assignment) → i < j → slice_get table i ≡ Some a
     → slice_get table j ≡ Some b
-    → (m : ℕ) → HasKey (assignment_of picked) nodes b m
-    → (n : ℕ) × (n < m) × HasKey (assignment_of picked) nodes a n
+    → (m : ℕ) → HasKey (picked_of picked) nodes b m
+    → (n : ℕ) × (n < m) × HasKey (picked_of picked) nodes a n

@@ -1,8 +1,8 @@
--- The law of held assignments: along each run the variable has the value of the right side. So nodes that do, wherever that
--- is so, what the nodes of a graph do make a graph that does the same. For proofs only, here and above.
-use Rattle.std.proofs.Common.{◌≡◌, ℕ, ◌<◌, ◌≤◌, Bool, true, false, not, if◌then◌else◌, nat_eq, nat_lt, ◌||◌, inl, inr, eqb-true, eq-eqb, List, [], ◌∷◌, length, slice_get, ℤ, Option, Some, None, refl, sym, ap, ◌∙◌, subst, true≢false, arith, le_refl}
+-- The law of held assignments: along each run the variable has the value of the right side. For proofs only, here and
+-- above.
+use Rattle.std.proofs.Common.{◌≡◌, ℕ, Bool, true, false, not, if◌then◌else◌, nat_eq, nat_lt, inl, inr, eq-eqb, List, [], ◌∷◌, length, slice_get, ℤ, Option, Some, None, refl, sym, ap, ◌∙◌, subst, true≢false, arith, le_refl}
 use Rattle.std.specs.List.{list_any}
-use Rattle.std.proofs.lemmas.Bool.{and_parts, ltb-false, ne_eqb, not-true, or_parts}
+use Rattle.std.proofs.lemmas.Bool.{and_parts, ltb-false, not-true, or_parts}
 use Rattle.mir_base.specs.declared.instructions.Operand.{Operand}
 use Rattle.mir_base.specs.declared.instructions.Rhs.{Rhs}
 use Rattle.mir_base.specs.declared.instructions.Test as tests
@@ -10,18 +10,16 @@ use Rattle.mir_base.specs.declared.operators.Trap.TheVariants.{ZeroDivisor, Rais
 use Rattle.mir_base.specs.EqualValues.{EqualOn, rhs_equal}
 use Rattle.mir_base.specs.ExpressionLaws.{assign_is}
 use Rattle.mir_base.specs.Expressions.{divides, rhs_count, rhs_traps, rhs_value}
-use Rattle.mir_base.specs.Frames.{Answer, Values, shared_values, with_first, with_result, all_zero, with_value, Frame, resumed, Transition, Continues, Prints, Calls, Returns, Traps}
-use Rattle.mir_base.specs.LockstepLaws.{lockstep_cheaper, lockstep_same}
+use Rattle.mir_base.specs.Frames.{Answer, Values, shared_values, with_first, with_result, all_zero, with_value, Frame, resumed, Continues, Traps}
 use Rattle.mir_base.specs.Locksteps.{Alike, Lockstep}
 use Rattle.mir_base.specs.Shapes.{rhs_vars}
 use Rattle.mir_base.specs.SharedLaws.{shared_long, with_first_other}
-use Rattle.mir_base.specs.UnitRuns.{UnitSame, UnitCheaper}
-use Rattle.mir_base.specs.Units.{assign_transition, assigned, at, guard_transition, test_holds}
+use Rattle.mir_base.specs.Units.{assigned, at, test_holds}
 use Rattle.flow_graph.specs.declared.nodes.Node.{Node}
 use Rattle.flow_graph.specs.declared.nodes.Node.TheVariants.{Start, Skip, Assign, Print, Guard, Call, Test, Return}
 use Rattle.flow_graph.specs.Graphs.{CanMake, GraphShape, assigns, node_succs, succs_of}
 use Rattle.flow_graph.specs.MachineLaws.{graph_hands}
-use Rattle.flow_graph.specs.Machines.{graph_code, graph_machine, machine_of, node_transition, received_from}
+use Rattle.flow_graph.specs.Machines.{graph_code, machine_of, node_transition, received_from}
 use Rattle.flow_graph.specs.Numbering.{is_in}
 use Rattle.flow_graph.specs.Paths.{Trace, from_start, goes_on}
 use Rattle.flow_graph.specs.RunFrameLaws.{run_frame_related}
@@ -29,7 +27,7 @@ use Rattle.flow_graph.specs.RunFrames.{IsRunFrame}
 use Rattle.graph_edit.specs.Accesses.{is_occurrence, occurs_at}
 use Rattle.graph_edit.specs.OccurrenceLaws.{occurrence_is}
 use Rattle.path_laws.specs.Paths.{Since}
-use Rattle.held_assign.specs.Holding.{IsHeld, assigns_one, can_hold, ends_at}
+use Rattle.held_assign.specs.Holding.{assigns_one, can_hold, ends_at}
 use Rattle.held_assign.specs.HeldValues.{AgreesThere}
 
 -- ---- one value
@@ -61,7 +59,7 @@ not_read v rhs can = not-true (is_in v (rhs_vars rhs)) (and_parts (not (divides 
 -- ---- assignments on a path
 
 -- each assignment that holds on this path gives its variable the value of its right side
-pub record AgreeOn (graph : GraphShape) (before : List ℕ) (values : Values) : Type 0 where
+pub record AgreeAfter (graph : GraphShape) (before : List ℕ) (values : Values) : Type 0 where
   pub is : (v : ℕ) (rhs : Rhs) → can_hold v rhs ≡ true
       → Since (occurs_at v rhs graph) (ends_at graph v rhs) before → values v ≡ rhs_value values rhs
 
@@ -70,7 +68,7 @@ module _ (graph : GraphShape) (m : ℕ) (before : List ℕ) (values : Values) wh
   agree_by : (node : Node) (new : Values) → slice_get graph.nodes m ≡ Some node
       → ((v : ℕ) (rhs : Rhs) → can_hold v rhs ≡ true → is_occurrence v rhs (Some node) ≡ true → new v ≡ rhs_value new rhs)
       → ((x : ℕ) → assigns graph x node ≡ false → new x ≡ values x)
-      → AgreeOn graph before values → AgreeOn graph (m ∷ before) new
+      → AgreeAfter graph before values → AgreeAfter graph (m ∷ before) new
   agree_by node new here made kept agree = record { is = λ v rhs can since. by v rhs can since }
     where
       by : (v : ℕ) (rhs : Rhs) → can_hold v rhs ≡ true → Since (occurs_at v rhs graph) (ends_at graph v rhs) (m ∷ before) → new v ≡ rhs_value new rhs
@@ -83,11 +81,11 @@ module _ (graph : GraphShape) (m : ℕ) (before : List ℕ) (values : Values) wh
 
   -- a node that is no assignment, where the values stay
   agree_same : (node : Node) → slice_get graph.nodes m ≡ Some node → ((v : ℕ) (rhs : Rhs) → is_occurrence v rhs (Some node) ≡ false)
-      → AgreeOn graph before values → AgreeOn graph (m ∷ before) values
+      → AgreeAfter graph before values → AgreeAfter graph (m ∷ before) values
   agree_same node here none agree = agree_by node values here (λ v rhs can born. absurd (true≢false (sym born ∙ none v rhs))) (λ x off. refl) agree
 
   -- an assignment
-  agree_assign : (x : ℕ) (t : Rhs) (next : ℕ) → slice_get graph.nodes m ≡ Some (Assign x t next) → AgreeOn graph before values → AgreeOn graph (m ∷ before) (with_value x (rhs_value values t) values)
+  agree_assign : (x : ℕ) (t : Rhs) (next : ℕ) → slice_get graph.nodes m ≡ Some (Assign x t next) → AgreeAfter graph before values → AgreeAfter graph (m ∷ before) (with_value x (rhs_value values t) values)
   agree_assign x t next here agree =
       agree_by (Assign x t next) (with_value x (rhs_value values t) values) here made (λ y off. other_value x y (rhs_value values t) values off) agree
     where
@@ -113,7 +111,7 @@ module _ (graph : GraphShape) (m : ℕ) (before : List ℕ) (values : Values) wh
       let past = ltb-false v graph.shared parts.0 in
       other_value x v a.value (with_first a.globals values) parts.1 ∙ with_first_other a.globals values v (omega (arith, past, long))
 
-  agree_call : (into : Option ℕ) (unit : ℕ) (operands : List Operand) (next : ℕ) (a : Answer) → length a.globals ≡ graph.shared → slice_get graph.nodes m ≡ Some (Call into unit operands next) → AgreeOn graph before values → AgreeOn graph (m ∷ before) (with_result into a.value (with_first a.globals values))
+  agree_call : (into : Option ℕ) (unit : ℕ) (operands : List Operand) (next : ℕ) (a : Answer) → length a.globals ≡ graph.shared → slice_get graph.nodes m ≡ Some (Call into unit operands next) → AgreeAfter graph before values → AgreeAfter graph (m ∷ before) (with_result into a.value (with_first a.globals values))
   agree_call into unit operands next a long here agree =
       agree_by (Call into unit operands next) (with_result into a.value (with_first a.globals values)) here (λ v rhs can born. absurd (true≢false (sym born))) (λ x off. call_keeps into unit operands next a x long off) agree
 
@@ -126,7 +124,7 @@ start_first graph can n s before here (goes_on m k earlier trace edge) =
     absurd (omega (arith, low, zero_is))
 
 -- after Start nothing holds
-agree_start : (graph : GraphShape) (n s : ℕ) (values : Values) → slice_get graph.nodes n ≡ Some (Start s) → AgreeOn graph (n ∷ []) values
+agree_start : (graph : GraphShape) (n s : ℕ) (values : Values) → slice_get graph.nodes n ≡ Some (Start s) → AgreeAfter graph (n ∷ []) values
 agree_start graph n s values here = record { is = λ v rhs can since. by v rhs since }
   where
     by : (v : ℕ) (rhs : Rhs) → Since (occurs_at v rhs graph) (ends_at graph v rhs) (n ∷ []) → values v ≡ rhs_value values rhs
@@ -140,16 +138,16 @@ pub record OnPath (graph : GraphShape) (f g : Frame) : Type 0 where
   pub same : g ≡ f
   pub before : List ℕ
   pub trace : Trace graph.nodes f.place before
-  pub agree : AgreeOn graph before f.values
+  pub agree : AgreeAfter graph before f.values
 
 -- so it does at the place
 pub agrees_there : (graph : GraphShape) (f g : Frame) → OnPath graph f g → AgreesThere graph f
 agrees_there graph f g on = λ v rhs held. on.agree.is v rhs held.can (held.paths on.before on.trace)
 
 module _ (graph : GraphShape) (can : CanMake graph.vars graph.received graph.nodes) where
-  module _ (f : Frame) (before : List ℕ) (trace : Trace graph.nodes f.place before) (agree : AgreeOn graph before f.values) where
+  module _ (f : Frame) (before : List ℕ) (trace : Trace graph.nodes f.place before) (agree : AgreeAfter graph before f.values) where
     -- the next frame, one edge further
-    on_path : (g : Frame) (node : Node) (slot : ℕ) → slice_get graph.nodes f.place ≡ Some node → slice_get (node_succs node) slot ≡ Some g.place → AgreeOn graph (f.place ∷ before) g.values → OnPath graph g g
+    on_path : (g : Frame) (node : Node) (slot : ℕ) → slice_get graph.nodes f.place ≡ Some node → slice_get (node_succs node) slot ≡ Some g.place → AgreeAfter graph (f.place ∷ before) g.values → OnPath graph g g
     on_path g node slot here leads agrees = record {
       same = refl;
       before = f.place ∷ before;
@@ -178,7 +176,7 @@ module _ (graph : GraphShape) (can : CanMake graph.vars graph.received graph.nod
     start_alike next here values =
         let none = start_first graph can f.place next before here trace in
         on_path (record { place = next; arguments = f.arguments; values = values }) (Start next) 0 here refl
-        (subst (λ l. AgreeOn graph (f.place ∷ l) values) (sym none) (agree_start graph f.place next values here))
+        (subst (λ l. AgreeAfter graph (f.place ∷ l) values) (sym none) (agree_start graph f.place next values here))
 
     resumes_on : (into : Option ℕ) (unit : ℕ) (operands : List Operand) (next : ℕ) (a : Answer) → length a.globals ≡ graph.shared → slice_get graph.nodes f.place ≡ Some (Call into unit operands next) → OnPath graph (resumed into a (at next f)) (resumed into a (at next f))
     resumes_on into unit operands next a long here =
@@ -198,34 +196,25 @@ module _ (graph : GraphShape) (can : CanMake graph.vars graph.received graph.nod
     at_place None here = refl
     at_place (Some node) here = at_node node here
 
-  -- ---- nodes that do the same where what holds agrees
+  -- ---- at each frame of a run
 
-  module _ (nodes : List Node) (alike : (f : Frame) → AgreesThere graph f → graph_code graph.shared graph.received nodes f ≡ graph_code graph.shared graph.received graph.nodes f) where
-    steps : (f g : Frame) → OnPath graph f g → Alike (OnPath graph) (graph_code graph.shared graph.received graph.nodes f) (graph_code graph.shared graph.received nodes g)
-    steps f g on =
-        let step = at_place f on.before on.trace on.agree (slice_get graph.nodes f.place) refl in
-        let there = subst (λ t. Alike (OnPath graph) (graph_code graph.shared graph.received graph.nodes f) t) (sym (alike f (agrees_there graph f g on))) step in
-        subst (λ h. Alike (OnPath graph) (graph_code graph.shared graph.received graph.nodes f) (graph_code graph.shared graph.received nodes h)) (sym on.same) there
+  -- a step of the graph beside itself
+  steps : (f g : Frame) → OnPath graph f g → Alike (OnPath graph) (graph_code graph.shared graph.received graph.nodes f) (graph_code graph.shared graph.received graph.nodes g)
+  steps f g on =
+      subst (λ h. Alike (OnPath graph) (graph_code graph.shared graph.received graph.nodes f) (graph_code graph.shared graph.received graph.nodes h)) (sym on.same)
+      (at_place f on.before on.trace on.agree (slice_get graph.nodes f.place) refl)
 
-    in_lockstep : Lockstep (machine_of graph) (graph_machine graph.shared graph.received nodes) (OnPath graph)
-    in_lockstep = record {
-      receives = refl;
-      shared = refl;
-      hands = graph_hands graph.shared graph.received graph.nodes;
-      starts = λ entry is. record { same = refl; before = []; trace = from_start; agree = record { is = λ v rhs can since. absurd since } };
-      steps = steps;
-    }
+  in_lockstep : Lockstep (machine_of graph) (machine_of graph) (OnPath graph)
+  in_lockstep = record {
+    receives = refl;
+    shared = refl;
+    hands = graph_hands graph.shared graph.received graph.nodes;
+    starts = λ entry is. record { same = refl; before = []; trace = from_start; agree = record { is = λ v rhs can since. absurd since } };
+    steps = steps;
+  }
 
-    -- they do the same as the graph
-    pub same_by_held : UnitSame (machine_of graph) (graph_machine graph.shared graph.received nodes)
-    same_by_held = lockstep_same (machine_of graph) (graph_machine graph.shared graph.received nodes) (OnPath graph) in_lockstep
-
-    -- and evaluate no more operators
-    pub cheaper_by_held : UnitCheaper (machine_of graph) (graph_machine graph.shared graph.received nodes)
-    cheaper_by_held = lockstep_cheaper (machine_of graph) (graph_machine graph.shared graph.received nodes) (OnPath graph) in_lockstep
-
-  -- the nodes of the graph themselves do so; so what holds agrees along each run
+  -- what holds agrees there
   pub held_values_agree : (f : Frame) → IsRunFrame (machine_of graph) f → AgreesThere graph f
   held_values_agree f comes =
-      let there = run_frame_related (machine_of graph) (machine_of graph) (OnPath graph) (in_lockstep graph.nodes (λ g is. refl)) f comes in
+      let there = run_frame_related (machine_of graph) (machine_of graph) (OnPath graph) in_lockstep f comes in
       agrees_there graph f there.0 there.1

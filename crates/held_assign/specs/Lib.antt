@@ -5,3 +5,9 @@ pub mod HeldValueLaws
 pub mod Assignments
 pub mod SameAssignments
 pub mod Rows
+pub mod CheapRuns
+pub mod HeldPasses
+pub mod HeldPassLaws
+pub mod InPlace
+pub mod InPlaceLaws
+pub mod Making

@@ -16,12 +16,12 @@ use Rattle.held_assign.specs.Holding.{IsHeld, IsHeldRhs, ends_at}
 -- ---- by variables
 
 -- the assignment assigns the variable
-abbrev pub is_target : Assignment → ℕ → Bool
-is_target a x = nat_eq a.target x
+abbrev pub has_target : Assignment → ℕ → Bool
+has_target a x = nat_eq a.target x
 
 -- its right side reads the variable
-abbrev pub reads : Assignment → ℕ → Bool
-reads a x = is_in x (rhs_vars a.rhs)
+abbrev pub has_source : Assignment → ℕ → Bool
+has_source a x = is_in x (rhs_vars a.rhs)
 
 -- the one or the other
 abbrev pub is_of : Assignment → ℕ → Bool
@@ -29,7 +29,7 @@ is_of a x = is_in x (assignment_vars a)
 
 -- for each of so many variables, which assignments of the table assign it
 abbrev pub AreTargetRows : ℕ → List Assignment → List (List Bool) → Type 0
-AreTargetRows vars table rows = AreKeyRows vars table is_target rows
+AreTargetRows vars table rows = AreKeyRows vars table has_target rows
 
 -- ---- by nodes
 

@@ -1,9 +1,9 @@
 // Assignments as keys of a table, which are read off nodes.
-ghost use Rattle.held_assign.specs.Assignments.{assignment_of};
+ghost use Rattle.held_assign.specs.Assignments.{picked_of};
 ghost use Rattle.held_assign.specs.SameAssignments.{same_assignments};
 
 use crate::Picks;
-use crate::table::{Assignment, assignment_of};
+use crate::table::{Assignment, picked_of};
 use flow_graph::Node;
 use key_rows::KeyOf;
 use key_table::Key;
@@ -19,9 +19,9 @@ pub(crate) struct AsPicked<'a, P: Picks> {
 }
 
 impl<'a, P: Picks> KeyOf<Assignment> for AsPicked<'a, P> {
-    ghost key_of = { λ of node. assignment_of (P.picked of.picks.now) node };
+    ghost key_of = { λ of node. picked_of (P.picked of.picks.now) node };
 
     fn key_of(&self, node: &Node) -> Option<Assignment> {
-        assignment_of(self.picks, node)
+        picked_of(self.picks, node)
     }
 }

@@ -4,7 +4,7 @@ ghost use Rattle.mir_base.specs.Shapes.{rhs_vars};
 ghost use Rattle.bit_rows.specs.Bits.{row_of};
 ghost use Rattle.key_rows.specs.KeyRows.{AreKeyRows, SetsBitAt};
 ghost use Rattle.held_assign.specs.Assignments.{AreHoldable};
-ghost use Rattle.held_assign.specs.Rows.{AreTargetRows, is_born, is_ended, is_of, is_target, reads};
+ghost use Rattle.held_assign.specs.Rows.{AreTargetRows, is_born, is_ended, is_of, has_target, has_source};
 
 use crate::Picks;
 use crate::keys::AsPicked;
@@ -24,7 +24,7 @@ pub(crate) fn target_rows(
     vars: usize,
     table: &KeyTable<Assignment>,
 ) -> Result<Rows, Memory>
-    ensures { IfOk result (AreKeyRows vars table.now is_target) }
+    ensures { IfOk result (AreKeyRows vars table.now has_target) }
 {
     let mut rows = Rows::new(alloc, vars, table.len())?;
     for number in 0..table.len() {
@@ -35,7 +35,7 @@ pub(crate) fn target_rows(
 
 /// For each variable below this number, which assignments of the table read it.
 fn source_rows(alloc: Global, vars: usize, table: &KeyTable<Assignment>) -> Result<Rows, Memory>
-    ensures { IfOk result (AreKeyRows vars table.now reads) }
+    ensures { IfOk result (AreKeyRows vars table.now has_source) }
 {
     let mut rows = Rows::new(alloc, vars, table.len())?;
     for number in 0..table.len() {

@@ -2,7 +2,7 @@
 ghost use Rattle.std.specs.Prelude.{◌≡◌, length, IfOk};
 ghost use Rattle.mir_base.specs.Shapes.{AllDiffer, operand_vars, rhs_vars};
 ghost use Rattle.flow_graph.specs.Numbering.{is_in};
-ghost use Rattle.held_assign.specs.Assignments.{AreHoldable, AreInOrder, HasAssignments, HasOnlyAssignments, assignment_of, picked_assignment};
+ghost use Rattle.held_assign.specs.Assignments.{AreHoldable, AreInOrder, HasAssignments, HasOnlyAssignments, picked_of, picked_assignment};
 ghost use Rattle.held_assign.specs.Holding.{can_hold};
 
 use crate::Picks;
@@ -40,8 +40,8 @@ pub(crate) fn table_of<P: Picks>(
 }
 
 /// The picked assignment that a node is, where it is one.
-pub(crate) fn assignment_of<P: Picks>(picks: &P, node: &Node) -> Option<Assignment>
-    ensures { result ≡ assignment_of (P.picked picks.now) node.now }
+pub(crate) fn picked_of<P: Picks>(picks: &P, node: &Node) -> Option<Assignment>
+    ensures { result ≡ picked_of (P.picked picks.now) node.now }
 {
     match node {
         Node::Assign(x, rhs, _) => picked_assignment(picks, *x, *rhs),

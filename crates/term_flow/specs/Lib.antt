@@ -1,5 +1,9 @@
 pub mod Terms
 pub mod Orders
 pub mod Termed
-pub mod TermedLaws
-pub mod ByRows
+pub mod NumberLaws
+pub mod TermLaws
+pub mod OrderLaws
+pub mod JoinLaws
+pub mod Meaning
+pub mod Shapes

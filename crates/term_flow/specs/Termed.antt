@@ -1,10 +1,11 @@
 -- The graph in which operators with constants on one another are one, and operands stand in one order. Cited by contracts.
-use Rattle.std.specs.Prelude.{◌≡◌, ℕ, ◌<◌, List, length, slice_get, Option, option_map}
+use Rattle.std.specs.Prelude.{ℕ, Option}
 use Rattle.std.specs.Option.{unwrap_or}
 use Rattle.mir_base.specs.declared.instructions.Rhs.{Rhs}
 use Rattle.flow_graph.specs.declared.nodes.Node.{Node}
 use Rattle.flow_graph.specs.declared.nodes.Node.TheVariants.{Start, Skip, Assign, Print, Guard, Call, Test, Return}
 use Rattle.flow_graph.specs.Graphs.{GraphShape}
+use Rattle.held_assign.specs.HeldPasses.{IsMadeByHeld, IsOnlyMadeByHeld}
 use Rattle.held_assign.specs.Holding.{IsHeldRhs}
 use Rattle.term_flow.specs.Orders.{in_order}
 use Rattle.term_flow.specs.Terms.{is_term, joined_of, read_rhs}
@@ -32,21 +33,10 @@ termed_node held (Return a) = Return a
 abbrev pub IsHeldTerm : GraphShape → ℕ → ℕ → Option Rhs → Type 0
 IsHeldTerm graph n v rhs = IsHeldRhs (λ x t. is_term t) graph n v rhs
 
--- each node with the right sides that hold before it, all decided on the nodes as they were
-pub record AreTermed (graph : GraphShape) (nodes : List Node) : Type 0 where
-  pub held : ℕ → ℕ → Option Rhs
-  pub is_held : (n v : ℕ) → n < length graph.nodes → IsHeldTerm graph n v (held n v)
-  pub nodes_are : (n : ℕ)
-      → slice_get nodes n ≡ option_map (termed_node (held n)) (slice_get graph.nodes n)
-
--- the graph with these nodes in the place of the old ones
-pub record IsTermed (graph termed : GraphShape) : Type 0 where
-  pub name_is : termed.name ≡ graph.name
-  pub shared_is : termed.shared ≡ graph.shared
-  pub vars_are : termed.vars ≡ graph.vars
-  pub received_are : termed.received ≡ graph.received
-  pub nodes_are : AreTermed graph termed.nodes
+-- the graph with such nodes by the right sides that hold before each
+abbrev pub IsTermed : GraphShape → GraphShape → Type 0
+IsTermed graph termed = IsMadeByHeld (λ x t. is_term t) termed_node graph termed
 
 -- no other graph is the termed one
 abbrev pub IsOnlyTermed : GraphShape → GraphShape → Type 0
-IsOnlyTermed graph termed = (other : GraphShape) → IsTermed graph other → other ≡ termed
+IsOnlyTermed graph termed = IsOnlyMadeByHeld (λ x t. is_term t) termed_node graph termed

@@ -4,9 +4,8 @@ ghost use Rattle.flow_graph.specs.Passes.{GraphDividesUnchanged, GraphKeeps, Kee
 ghost use Rattle.term_flow.specs.Termed.{IsOnlyTermed, IsTermed};
 
 use crate::joining::PickTerms;
-use crate::rewriting::termed_nodes;
 use flow_graph::Graph;
-use held_assign::HeldAssigns;
+use held_assign::made_by_held;
 use mir_base::Memory;
 use std::alloc::Global;
 
@@ -49,9 +48,6 @@ pub fn terms(alloc: Global, graph: &Graph) -> Result<Graph, Memory>
     ensures succs { IfOk result (KeepsSuccs graph.now) }
     ensures split { IfOk result (KeepsSplit graph.now) }
 {
-    let _nodes = graph.nodes();
-    let held = HeldAssigns::of(alloc, graph, &PickTerms)?;
-    let nodes = termed_nodes(alloc, graph, &held)?;
-    let termed = graph.with_nodes(alloc, nodes)?;
+    let termed = made_by_held(alloc, graph, &PickTerms)?;
     Ok(termed)
 }

@@ -4,7 +4,7 @@ use Rattle.graph_edit.specs.Accesses.{is_occurrence}
 use Rattle.key_rows.specs.KeyRows.{AreKeyRows, HasKey}
 use Rattle.key_rows.specs.KeyRowLaws.{by_test}
 use Rattle.held_assign.specs.declared.table.Assignment.{Assignment}
-use Rattle.held_assign.specs.Assignments.{assignment_of}
+use Rattle.held_assign.specs.Assignments.{picked_of}
 use Rattle.held_assign.proofs.Holdable.{born_assignment}
 use Rattle.held_assign.proofs.rows.born_rows.Goals as goal
 
@@ -18,4 +18,4 @@ returns g c =
     let table = c.args.table.now in
     let picked = g.P.Picks.picked c.args.picks.now in
     subst (λ (all : List Node). AreKeyRows (length all) table (born all) c.in_ok-rows.rows) c.nodes-nodes.ensures.value
-    (by_test (length nodes) table (born nodes) (HasKey (assignment_of picked) nodes) c.in_ok-rows.rows (λ n i a n_in at. born_assignment picked nodes n a (c.requires i a at).is_picked (c.requires i a at).can) c.in_ok-rows.ensures)
+    (by_test (length nodes) table (born nodes) (HasKey (picked_of picked) nodes) c.in_ok-rows.rows (λ n i a n_in at. born_assignment picked nodes n a (c.requires i a at).is_picked (c.requires i a at).can) c.in_ok-rows.ensures)

@@ -2,7 +2,7 @@ use Rattle.std.proofs.Common.{◌∙◌, ap, ◌||◌, nat_eq, length}
 use Rattle.std.proofs.Math.Bool.{or_comm}
 use Rattle.path_laws.specs.Paths.{has_bit}
 use Rattle.path_laws.specs.RowLaws.{are_alike, like_rows}
-use Rattle.held_assign.specs.Rows.{reads}
+use Rattle.held_assign.specs.Rows.{has_source}
 use Rattle.held_assign.proofs.rows.touched_rows.Goals as goal
 
 pub or_rows-requires : goal.or_rows-requires
@@ -14,6 +14,6 @@ returns c = record {
   bits = λ n i a n_in at.
       c.or_rows.ensures.bits n i
       ∙ ap (λ b. b || has_bit c.args.targets.now i n) (c.in_ok-rows.ensures.bits n i a (rw c.len.ensures n_in) at)
-      ∙ ap (λ b. reads a n || b) (c.requires.bits n i a n_in at)
-      ∙ or_comm (reads a n) (nat_eq a.target n);
+      ∙ ap (λ b. has_source a n || b) (c.requires.bits n i a n_in at)
+      ∙ or_comm (has_source a n) (nat_eq a.target n);
 }

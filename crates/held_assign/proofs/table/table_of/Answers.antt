@@ -1,5 +1,5 @@
 use Rattle.std.proofs.Common.{[], length, subst}
-use Rattle.held_assign.specs.Assignments.{AreInOrder, HasAssignments, HasOnlyAssignments, assignment_of}
+use Rattle.held_assign.specs.Assignments.{AreInOrder, HasAssignments, HasOnlyAssignments, picked_of}
 use Rattle.held_assign.proofs.Holdable.{taken_holdable}
 use Rattle.held_assign.proofs.Taking.{taken_all, taken_only, taken_order}
 use Rattle.held_assign.proofs.table.table_of.Goals as goal
@@ -10,14 +10,14 @@ returns-clause-holdable g c = taken_holdable (g.P.Picks.picked c.args.picks.now)
 pub returns-clause-all : goal.returns-clause-all
 returns-clause-all g c =
     let picked = g.P.Picks.picked c.args.picks.now in
-    subst (λ nodes. HasAssignments picked nodes c.in_ok-table.table) c.nodes-nodes.ensures.value (taken_all (assignment_of picked) c.nodes-nodes.result.now [] c.in_ok-table.table c.in_ok-table.ensures.keys)
+    subst (λ nodes. HasAssignments picked nodes c.in_ok-table.table) c.nodes-nodes.ensures.value (taken_all (picked_of picked) c.nodes-nodes.result.now [] c.in_ok-table.table c.in_ok-table.ensures.keys)
 
 pub returns-clause-only : goal.returns-clause-only
 returns-clause-only g c =
     let picked = g.P.Picks.picked c.args.picks.now in
-    subst (λ nodes. HasOnlyAssignments picked nodes c.in_ok-table.table) c.nodes-nodes.ensures.value (taken_only (assignment_of picked) c.nodes-nodes.result.now c.in_ok-table.table c.in_ok-table.ensures.keys)
+    subst (λ nodes. HasOnlyAssignments picked nodes c.in_ok-table.table) c.nodes-nodes.ensures.value (taken_only (picked_of picked) c.nodes-nodes.result.now c.in_ok-table.table c.in_ok-table.ensures.keys)
 
 pub returns-clause-order : goal.returns-clause-order
 returns-clause-order g c =
     let picked = g.P.Picks.picked c.args.picks.now in
-    subst (λ nodes. AreInOrder picked nodes c.in_ok-table.table) c.nodes-nodes.ensures.value (taken_order (assignment_of picked) c.nodes-nodes.result.now c.in_ok-table.table c.in_ok-table.ensures.differ c.in_ok-table.ensures.keys)
+    subst (λ nodes. AreInOrder picked nodes c.in_ok-table.table) c.nodes-nodes.ensures.value (taken_order (picked_of picked) c.nodes-nodes.result.now c.in_ok-table.table c.in_ok-table.ensures.differ c.in_ok-table.ensures.keys)

@@ -1,4 +1,4 @@
-use Rattle.std.proofs.Common.{◌≡◌, subst}
+use Rattle.std.proofs.Common.{subst}
 use Rattle.flow_graph.specs.Graphs.{CanMake}
 use Rattle.held_assign.specs.HeldValueLaws.{held_values_agree}
 use Rattle.held_assign.proofs.values.held_values.Goals as goal

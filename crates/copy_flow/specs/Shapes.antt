@@ -1,8 +1,7 @@
--- The copied graph has the shape of the graph: a graph can be made of its nodes, with the same edges, no other calls, and
--- each division in its place.
-use Rattle.std.proofs.Common.{◌≡◌, ℕ, ◌<◌, Bool, true, false, ◌&&◌, if◌then◌else◌, List, [], ◌∷◌, ◌++◌, length, map, flat_map, Some, option_map, refl, ap, ◌∙◌}
+-- A copied node has the shape of the node: it leads where that does, calls the same, and reads what that reads or what holds
+-- does; each division stays in its place. For proofs only.
+use Rattle.std.proofs.Common.{◌≡◌, ℕ, ◌<◌, Bool, true, false, ◌&&◌, if◌then◌else◌, List, [], ◌∷◌, ◌++◌, map, flat_map, Option, Some, None, option_map, refl, ap, ◌∙◌}
 use Rattle.std.proofs.lemmas.List.{length-map}
-use Rattle.std.proofs.lemmas.Option.{slice_get_within}
 use Rattle.mir_base.specs.declared.operators.Op.{Op}
 use Rattle.mir_base.specs.declared.instructions.Operand.{Operand}
 use Rattle.mir_base.specs.declared.instructions.Operand.TheVariants.{Var, Const}
@@ -17,12 +16,12 @@ use Rattle.mir_base.specs.BelowLaws.{all_below_left, all_below_right, all_below_
 use Rattle.flow_graph.specs.declared.nodes.Node.{Node}
 use Rattle.flow_graph.specs.declared.nodes.Node.TheVariants.{Start, Skip, Assign, Print, Guard, Call, Test, Return}
 use Rattle.flow_graph.specs.Dividing.{DividesAt, DividesStay}
-use Rattle.flow_graph.specs.Graphs.{CanMake, GraphShape, node_vars}
-use Rattle.flow_graph.specs.NodeByNode.{IsInPlace, IsNodeByNode, in_place_guard, in_place_itself, in_place_test, kept_can}
-use Rattle.copy_flow.specs.Copies.{is_var}
+use Rattle.flow_graph.specs.Graphs.{GraphShape, node_vars}
+use Rattle.flow_graph.specs.NodeByNode.{IsInPlace, in_place_guard, in_place_itself, in_place_test}
 use Rattle.flow_graph.specs.Numbering.{renamed_operand, renamed_rhs, renamed_test}
-use Rattle.copy_flow.specs.Copied.{AreCopied, reread_node}
-use Rattle.copy_flow.proofs.Found.{read_below}
+use Rattle.held_assign.specs.HeldPasses.{AreMadeByHeld, ReadsWhatHolds, StandsInPlace}
+use Rattle.copy_flow.specs.Copied.{copied_node, reread_node}
+use Rattle.copy_flow.specs.Copies.{is_copy, is_var, read_for}
 
 -- ---- one node
 
@@ -32,7 +31,7 @@ chosen_in_place true x rhs new next = record { succs = refl; call = refl; was_st
 chosen_in_place false x rhs new next = record { succs = refl; call = refl; was_start = λ s e. cc; start = λ s e. cc; skip = λ s e. cc }
 
 -- the new node stands in the place of the old one
-pub reread_in_place : (read : ℕ → ℕ) (node : Node) → IsInPlace node (reread_node read node)
+reread_in_place : (read : ℕ → ℕ) (node : Node) → IsInPlace node (reread_node read node)
 reread_in_place read (Start next) = in_place_itself (Start next)
 reread_in_place read (Skip next) = in_place_itself (Skip next)
 reread_in_place read (Assign x rhs next) = chosen_in_place (is_var x (renamed_rhs read rhs)) x rhs (renamed_rhs read rhs) next
@@ -79,7 +78,7 @@ module _ (k : ℕ) (read : ℕ → ℕ) (low : (v : ℕ) → v < k → read v < 
   chosen_below true x rhs next x_in below = tt
   chosen_below false x rhs next x_in below = (x_in, below)
 
-  pub reread_below : (node : Node) → AllBelow k (node_vars node) → AllBelow k (node_vars (reread_node read node))
+  reread_below : (node : Node) → AllBelow k (node_vars node) → AllBelow k (node_vars (reread_node read node))
   reread_below (Start next) below = below
   reread_below (Skip next) below = below
   reread_below (Assign x rhs next) below = chosen_below (is_var x (renamed_rhs read rhs)) x (renamed_rhs read rhs) next below.0 (rhs_below rhs below.1)
@@ -91,36 +90,44 @@ module _ (k : ℕ) (read : ℕ → ℕ) (low : (v : ℕ) → v < k → read v < 
   reread_below (Test test taken other) below = test_below test below
   reread_below (Return a) below = operand_below a below
 
+-- ---- by what holds
+
+-- each new node stands in the place of the old one
+pub copied_in_place : StandsInPlace copied_node
+copied_in_place held node = reread_in_place (λ v. read_for v (held v)) node
+
+-- what is read for a variable is one below, where all that holds is
+read_below : (k v : ℕ) (rhs : Option Rhs) → ((r : Rhs) → rhs ≡ Some r → AllBelow k (rhs_vars r)) → v < k → read_for v rhs < k
+read_below k v None low below = below
+read_below k v (Some (Plain (Var w))) low below = (low (Plain (Var w)) refl).0
+read_below k v (Some (Plain (Const c))) low below = below
+read_below k v (Some (Unary op a)) low below = below
+read_below k v (Some (Binary op a b)) low below = below
+
+-- so the new node reads what holds, or what the old one reads
+pub copied_reads : ReadsWhatHolds copied_node
+copied_reads k held low node below = reread_below k (λ v. read_for v (held v)) (λ v v_in. read_below k v (held v) (low v) v_in) node below
+
 -- ---- the copied nodes
 
-module _ (graph : GraphShape) (nodes : List Node) (are : AreCopied graph nodes) where
-  -- each node is put anew in its place
-  abbrev pub copied_by : IsNodeByNode graph.nodes nodes
-  copied_by = record { becomes = λ n. reread_node (are.read n); in_place = λ n. reread_in_place (are.read n); nodes_are = are.nodes_are }
-
-  pub copied_can_make : CanMake graph.vars graph.received graph.nodes → CanMake graph.vars graph.received nodes
-  copied_can_make can = kept_can graph.nodes nodes copied_by graph.vars graph.received can (λ n node here.
-      let lt = slice_get_within graph.nodes n node here in
-      let low : (v : ℕ) → v < length graph.vars → are.read n v < length graph.vars = λ v v_in. read_below graph can v (are.read n v) n (are.is_read n v lt) v_in in
-      reread_below (length graph.vars) (are.read n) low node (can.below n node here))
-
-  -- ---- divisions
-
+module _ (graph : GraphShape) (nodes : List Node) (are : AreMadeByHeld is_copy copied_node graph nodes) where
   -- an operand that may be 0 may be 0 still
   zero_stays : (read : ℕ → ℕ) (a : Operand) → may_be_zero (renamed_operand read a) ≡ may_be_zero a
   zero_stays read (Var x) = refl
   zero_stays read (Const c) = refl
 
   division_stays : (n x : ℕ) (op : Op) → DividesAt graph.nodes n x op → DividesAt nodes n x op
-  division_stays n x op at = record {
-    left = renamed_operand (are.read n) at.left;
-    right = renamed_operand (are.read n) at.right;
-    of = record {
-      next = at.of.next;
-      is = are.nodes_are n ∙ ap (option_map (reread_node (are.read n))) at.of.is;
-      may_trap = ap (λ b. is_dividing op && b) (zero_stays (are.read n) at.right) ∙ at.of.may_trap;
-    };
-  }
+  division_stays n x op at =
+      let read = λ (v : ℕ). read_for v (are.held n v) in
+      record {
+        left = renamed_operand read at.left;
+        right = renamed_operand read at.right;
+        of = record {
+          next = at.of.next;
+          is = are.nodes_are n ∙ ap (option_map (copied_node (are.held n))) at.of.is;
+          may_trap = ap (λ b. is_dividing op && b) (zero_stays read at.right) ∙ at.of.may_trap;
+        };
+      }
 
   pub copied_divides : DividesStay graph.nodes nodes
   copied_divides = record { place = λ n. n; stays = division_stays; in_order = λ n m x y op other at at' lt. lt }

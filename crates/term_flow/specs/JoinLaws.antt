@@ -20,8 +20,8 @@ use Rattle.mir_base.specs.Shapes.{AllBelow, operand_vars, rhs_vars}
 use Rattle.mir_base.specs.Units.{operand_value}
 use Rattle.term_flow.specs.declared.reading.ByConstant.{ByConstant}
 use Rattle.term_flow.specs.Terms.{value_by, comparison, denied_op, denied_rhs, first_of_both, joined_to, of_one, of_other, of_truth, of_zero, settled, over_by, over_read, read_rhs, rhs_by, rhs_from}
-use Rattle.term_flow.proofs.NumberLaws.{eq_turned}
-use Rattle.term_flow.proofs.TermLaws.{IfOver, over_holds, reads, writes, zero_is}
+use Rattle.term_flow.specs.NumberLaws.{eq_turned}
+use Rattle.term_flow.specs.TermLaws.{IfOver, over_holds, reads, writes, zero_is}
 
 -- ---- comparisons
 

@@ -15,8 +15,8 @@ use Rattle.mir_base.specs.Numbers.{is_dividing, truth, unsigned, value_of_op, wr
 use Rattle.mir_base.specs.Shapes.{AllBelow, rhs_vars}
 use Rattle.mir_base.specs.Units.{operand_value}
 use Rattle.term_flow.specs.Orders.{commutes, in_order, is_turned}
-use Rattle.term_flow.proofs.NumberLaws.{eq_turned, max_turned, min_turned}
-use Rattle.term_flow.proofs.TermLaws.{never_traps}
+use Rattle.term_flow.specs.NumberLaws.{eq_turned, max_turned, min_turned}
+use Rattle.term_flow.specs.TermLaws.{never_traps}
 
 -- ---- operators
 

@@ -1,10 +1,10 @@
 -- What tests ask and what comparisons give: a test of a variable that holds a comparison holds exactly where the test for the
--- comparison does. So the compared nodes do what the nodes of the graph do.
-use Rattle.std.proofs.Common.{◌≡◌, ℕ, ◌<◌, Bool, true, false, not, if◌then◌else◌, ℤ, pos, List, length, slice_get, Option, Some, None, option_map, refl, sym, ap, ◌∙◌, subst, arith, int_lt, int_le, w64}
+-- comparison does. So the compared nodes do what the nodes of the graph do. For proofs only.
+use Rattle.std.proofs.Common.{◌≡◌, ℕ, Bool, true, false, not, if◌then◌else◌, ℤ, pos, Option, Some, None, option_map, refl, sym, ap, ◌∙◌, subst, arith, w64}
 use Rattle.std.specs.Option.{unwrap_or}
 use Rattle.std.specs.Ordering.{int_eq}
 use Rattle.std.proofs.lemmas.Int.{ints, int_wrap_fits}
-use Rattle.std.proofs.lemmas.Option.{same_Some, slice_get_within}
+use Rattle.std.proofs.lemmas.Option.{same_Some}
 use Rattle.mir_base.specs.declared.operators.Op.{Op}
 use Rattle.mir_base.specs.declared.operators.Op.TheVariants.{Add, Sub, Mul, Div, Mod, Min, Max, Eq, Ne, Lt, Le, Gt, Ge, Shl, Shr, Shra, And, Or, Xor}
 use Rattle.mir_base.specs.declared.operators.UnOp.TheVariants.{Neg, Not}
@@ -25,12 +25,13 @@ use Rattle.mir_base.specs.Units.{at, operand_value, test_holds}
 use Rattle.flow_graph.specs.declared.nodes.Node.{Node}
 use Rattle.flow_graph.specs.declared.nodes.Node.TheVariants.{Start, Skip, Assign, Print, Guard, Call, Test, Return}
 use Rattle.flow_graph.specs.Graphs.{GraphShape}
-use Rattle.flow_graph.specs.Machines.{graph_code, node_transition}
+use Rattle.flow_graph.specs.Machines.{node_transition}
+use Rattle.held_assign.specs.CheapRuns.{same_as_cheap}
+use Rattle.held_assign.specs.HeldPasses.{DoesAsTheOld}
 use Rattle.held_assign.specs.HeldValues.{AgreesThere}
-use Rattle.held_assign.specs.Holding.{IsHeldRhs}
 use Rattle.compare_flow.specs.declared.truths.Asked.{Asked}
-use Rattle.compare_flow.specs.Compared.{AreCompared, IsHeldComparison, compared_node, compared_test, truth_in, truth_of}
-use Rattle.compare_flow.specs.Truths.{asked_in, asked_by, asked_of, asked_of_zero, denied, is_comparison, relation_of, relation_test, truth_test, zero_test}
+use Rattle.compare_flow.specs.Compared.{IsHeldComparison, compared_node, compared_test, truth_in, truth_of}
+use Rattle.compare_flow.specs.Truths.{asked_in, asked_by_relation, asked_of, asked_of_zero, denied, is_comparison, relation_of, relation_test, truth_test, zero_test}
 
 -- ---- numbers and tests
 
@@ -105,7 +106,7 @@ module _ (values : Values) where
       by false is f = cc
 
   -- of a relation
-  relation_asked : (op : RelOp) (a b : Operand) (q : Asked) → asked_by op a b ≡ Some q → relation_holds op (operand_value values a) (operand_value values b) ≡ asks q.holds (values q.var)
+  relation_asked : (op : RelOp) (a b : Operand) (q : Asked) → asked_by_relation op a b ≡ Some q → relation_holds op (operand_value values a) (operand_value values b) ≡ asks q.holds (values q.var)
   relation_asked Equal a b q e = zero_asked a b false q e
   relation_asked Differ a b q e = zero_asked a b true q e
   relation_asked Below a b q e = cc
@@ -198,23 +199,17 @@ module _ (graph : GraphShape) (f : Frame) (held : ℕ → Option Rhs) (is_held :
       by (Some q) e = instead (truth_in (held q.var) q.holds) (truth_asked test q e (held q.var) refl)
 
   -- and the new node does what the old one does
-  node_same : (o : Option Node) → node_transition graph.shared graph.received (option_map (compared_node held) o) f ≡ node_transition graph.shared graph.received o f
-  node_same None = refl
-  node_same (Some (Start next)) = refl
-  node_same (Some (Skip next)) = refl
-  node_same (Some (Assign x rhs next)) = refl
-  node_same (Some (Print a next)) = refl
-  node_same (Some (Guard test number next)) = ap (λ b. if b then Traps (Raised number) 0 else Continues 0 (at next f)) (test_same test)
-  node_same (Some (Call into unit operands next)) = refl
-  node_same (Some (Test test taken other)) = ap (λ (b : Bool). Continues 0 (at (if b then taken else other) f)) (test_same test)
-  node_same (Some (Return a)) = refl
+  node_same : (node : Node) → node_transition graph.shared graph.received (Some (compared_node held node)) f ≡ node_transition graph.shared graph.received (Some node) f
+  node_same (Start next) = refl
+  node_same (Skip next) = refl
+  node_same (Assign x rhs next) = refl
+  node_same (Print a next) = refl
+  node_same (Guard test number next) = ap (λ b. if b then Traps (Raised number) 0 else Continues 0 (at next f)) (test_same test)
+  node_same (Call into unit operands next) = refl
+  node_same (Test test taken other) = ap (λ (b : Bool). Continues 0 (at (if b then taken else other) f)) (test_same test)
+  node_same (Return a) = refl
 
--- so do the compared nodes at each frame where what holds agrees
-pub code_same : (graph : GraphShape) (nodes : List Node) → AreCompared graph nodes → (f : Frame) → AgreesThere graph f → graph_code graph.shared graph.received nodes f ≡ graph_code graph.shared graph.received graph.nodes f
-code_same graph nodes are f agrees = ap (λ o. node_transition graph.shared graph.received o f) (are.nodes_are f.place) ∙ by (slice_get graph.nodes f.place) refl
-  where
-    by : (o : Option Node) → slice_get graph.nodes f.place ≡ o → node_transition graph.shared graph.received (option_map (compared_node (are.held f.place)) o) f ≡ node_transition graph.shared graph.received o f
-    by None here = refl
-    by (Some node) here =
-        let lt : f.place < length graph.nodes = slice_get_within graph.nodes f.place node here in
-        node_same graph f (are.held f.place) (λ v. are.is_held f.place v lt) agrees (Some node)
+-- so it is as cheap
+pub compared_does : DoesAsTheOld (λ x t. is_comparison t) compared_node
+compared_does graph f held is_held agrees fits node =
+    same_as_cheap (node_transition graph.shared graph.received (Some node) f) (node_transition graph.shared graph.received (Some (compared_node held node)) f) (node_same graph f held is_held agrees node)

@@ -1,9 +1,8 @@
--- The termed graph has the shape of the graph: a graph can be made of its nodes, with the same edges, and no other calls
--- and divisions.
-use Rattle.std.proofs.Common.{◌≡◌, ℕ, ◌&&◌, if◌then◌else◌, true, List, length, Option, Some, None, refl, ap, ◌∙◌, ℤ}
+-- A termed node has the shape of the node: it leads where that does, calls the same, and reads what that reads or what holds
+-- does; divisions stay as they are. For proofs only.
+use Rattle.std.proofs.Common.{◌≡◌, ℕ, ◌&&◌, if◌then◌else◌, true, List, Option, Some, None, refl, ap, ◌∙◌, ℤ}
 use Rattle.std.specs.Option.{unwrap_or}
 use Rattle.std.proofs.lemmas.Bool.{and_parts}
-use Rattle.std.proofs.lemmas.Option.{slice_get_within}
 use Rattle.mir_base.specs.declared.operators.Op.{Op}
 use Rattle.mir_base.specs.declared.operators.Op.TheVariants.{Div, Mod}
 use Rattle.mir_base.specs.declared.instructions.Operand.{Operand}
@@ -18,21 +17,22 @@ use Rattle.mir_base.specs.Shapes.{AllBelow, rhs_vars}
 use Rattle.flow_graph.specs.declared.nodes.Node.{Node}
 use Rattle.flow_graph.specs.declared.nodes.Node.TheVariants.{Start, Skip, Assign, Print, Guard, Call, Test, Return}
 use Rattle.flow_graph.specs.Dividing.{DividesUnchanged}
-use Rattle.flow_graph.specs.Graphs.{CanMake, GraphShape, node_vars}
-use Rattle.flow_graph.specs.NodeByNode.{IsInPlace, IsNodeByNode, in_place_assign, in_place_itself, kept_can, kept_divides}
-use Rattle.held_assign.specs.HeldLaws.{found_below}
+use Rattle.flow_graph.specs.Graphs.{GraphShape, node_vars}
+use Rattle.flow_graph.specs.NodeByNode.{in_place_assign, in_place_itself, kept_divides}
+use Rattle.held_assign.specs.HeldPasses.{AreMadeByHeld, ReadsWhatHolds, StandsInPlace}
+use Rattle.held_assign.specs.HeldPassLaws.{by_node}
 use Rattle.term_flow.specs.declared.reading.ByConstant.{ByConstant}
-use Rattle.term_flow.specs.Termed.{AreTermed, joined_rhs, termed_node}
+use Rattle.term_flow.specs.Termed.{joined_rhs, termed_node}
 use Rattle.term_flow.specs.Orders.{in_order, is_turned}
 use Rattle.term_flow.specs.Terms.{is_term, joined_of, joined_to, left_read, read_binary, read_rhs, right_read}
-use Rattle.term_flow.proofs.JoinLaws.{held_gives}
-use Rattle.term_flow.proofs.OrderLaws.{order_below, unturned}
-use Rattle.term_flow.proofs.TermLaws.{reads}
+use Rattle.term_flow.specs.JoinLaws.{held_gives}
+use Rattle.term_flow.specs.OrderLaws.{order_below, unturned}
+use Rattle.term_flow.specs.TermLaws.{reads}
 
 -- ---- one node
 
 -- the new node stands in the place of the old one
-pub termed_in_place : (held : ℕ → Option Rhs) (node : Node) → IsInPlace node (termed_node held node)
+pub termed_in_place : StandsInPlace termed_node
 termed_in_place held (Start next) = in_place_itself (Start next)
 termed_in_place held (Skip next) = in_place_itself (Skip next)
 termed_in_place held (Assign x rhs next) = in_place_assign x rhs (joined_rhs held rhs) next
@@ -69,7 +69,7 @@ module _ (k : ℕ) (held : ℕ → Option Rhs) (low : (v : ℕ) (rhs : Rhs) → 
       by None is = below
       by (Some t) is = instead (joined_to t (held t.var)) (held_below rhs t is (held t.var) refl)
 
-  pub node_below : (node : Node) → AllBelow k (node_vars node) → AllBelow k (node_vars (termed_node held node))
+  node_below : (node : Node) → AllBelow k (node_vars node) → AllBelow k (node_vars (termed_node held node))
   node_below (Start next) below = below
   node_below (Skip next) below = below
   node_below (Assign x rhs next) below = (below.0, rhs_below rhs below.1)
@@ -78,6 +78,10 @@ module _ (k : ℕ) (held : ℕ → Option Rhs) (low : (v : ℕ) (rhs : Rhs) → 
   node_below (Call into unit operands next) below = below
   node_below (Test test taken other) below = below
   node_below (Return a) below = below
+
+-- so does each new node
+pub termed_reads : ReadsWhatHolds termed_node
+termed_reads k held low node below = node_below k held low node below
 
 -- ---- divisions
 
@@ -109,15 +113,7 @@ division_same held op left right e =
 
 -- ---- the termed nodes
 
-module _ (graph : GraphShape) (nodes : List Node) (are : AreTermed graph nodes) where
-  -- each node is put anew in its place
-  abbrev pub termed_by : IsNodeByNode graph.nodes nodes
-  termed_by = record { becomes = λ n. termed_node (are.held n); in_place = λ n. termed_in_place (are.held n); nodes_are = are.nodes_are }
-
+module _ (graph : GraphShape) (nodes : List Node) (are : AreMadeByHeld (λ x t. is_term t) termed_node graph nodes) where
+  -- divisions stay as they are
   pub termed_divides : DividesUnchanged graph.nodes nodes
-  termed_divides = kept_divides graph.nodes nodes termed_by (λ n x op left right next may. ap (λ r. Assign x r next) (division_same (are.held n) op left right may))
-
-  pub termed_can_make : CanMake graph.vars graph.received graph.nodes → CanMake graph.vars graph.received nodes
-  termed_can_make can = kept_can graph.nodes nodes termed_by graph.vars graph.received can (λ n node here.
-      let low = found_below (λ x t. is_term t) graph can n (are.held n) (λ v. are.is_held n v (slice_get_within graph.nodes n node here)) in
-      node_below (length graph.vars) (are.held n) low node (can.below n node here))
+  termed_divides = kept_divides graph.nodes nodes (by_node (λ x t. is_term t) termed_node graph nodes are termed_in_place) (λ n x op left right next may. ap (λ r. Assign x r next) (division_same (are.held n) op left right may))

@@ -1,8 +1,8 @@
--- The compared graph has the shape of the graph: a graph can be made of its nodes, with the same edges, no other calls,
--- and the same assignments.
-use Rattle.std.proofs.Common.{◌≡◌, ℕ, Bool, true, false, List, length, Option, Some, None, option_map, refl, sym, ap, subst}
+-- A compared node has the shape of the node: it leads where that does, calls the same, and reads what that reads or the
+-- comparison does. For proofs only.
+use Rattle.std.proofs.Common.{◌≡◌, ℕ, Bool, true, false, Option, Some, None, option_map, refl, sym, ap, subst}
 use Rattle.std.specs.Option.{unwrap_or}
-use Rattle.std.proofs.lemmas.Option.{same_Some, slice_get_within}
+use Rattle.std.proofs.lemmas.Option.{same_Some}
 use Rattle.mir_base.specs.declared.operators.UnOp.TheVariants.{Neg, Not}
 use Rattle.mir_base.specs.declared.operators.RelOp.{RelOp}
 use Rattle.mir_base.specs.declared.instructions.Rhs.{Rhs}
@@ -11,18 +11,17 @@ use Rattle.mir_base.specs.declared.instructions.Test.{Test as Condition}
 use Rattle.mir_base.specs.Shapes.{AllBelow, rhs_vars, test_vars}
 use Rattle.flow_graph.specs.declared.nodes.Node.{Node}
 use Rattle.flow_graph.specs.declared.nodes.Node.TheVariants.{Start, Skip, Assign, Print, Guard, Call, Test, Return}
-use Rattle.flow_graph.specs.Dividing.{DividesUnchanged}
-use Rattle.flow_graph.specs.Graphs.{CanMake, GraphShape, node_vars}
-use Rattle.flow_graph.specs.NodeByNode.{IsInPlace, IsNodeByNode, in_place_guard, in_place_itself, in_place_test, kept_can, kept_divides}
-use Rattle.held_assign.specs.HeldLaws.{found_below}
+use Rattle.flow_graph.specs.Graphs.{node_vars}
+use Rattle.flow_graph.specs.NodeByNode.{in_place_guard, in_place_itself, in_place_test}
+use Rattle.held_assign.specs.HeldPasses.{ReadsWhatHolds, StandsInPlace}
 use Rattle.compare_flow.specs.declared.truths.Asked.{Asked}
-use Rattle.compare_flow.specs.Compared.{AreCompared, compared_node, compared_test, truth_in, truth_of}
-use Rattle.compare_flow.specs.Truths.{asked_in, is_comparison, relation_of, relation_test, truth_test, zero_test}
+use Rattle.compare_flow.specs.Compared.{compared_node, compared_test, truth_in, truth_of}
+use Rattle.compare_flow.specs.Truths.{asked_in, relation_of, relation_test, truth_test, zero_test}
 
 -- ---- one node
 
 -- the new node stands in the place of the old one
-pub compared_in_place : (held : ℕ → Option Rhs) (node : Node) → IsInPlace node (compared_node held node)
+pub compared_in_place : StandsInPlace compared_node
 compared_in_place held (Start next) = in_place_itself (Start next)
 compared_in_place held (Skip next) = in_place_itself (Skip next)
 compared_in_place held (Assign x rhs next) = in_place_itself (Assign x rhs next)
@@ -65,7 +64,7 @@ module _ (k : ℕ) (held : ℕ → Option Rhs) (low : (v : ℕ) (rhs : Rhs) → 
       by None = below
       by (Some q) = instead (truth_in (held q.var) q.holds) (truth_below q (held q.var) refl)
 
-  pub node_below : (node : Node) → AllBelow k (node_vars node) → AllBelow k (node_vars (compared_node held node))
+  node_below : (node : Node) → AllBelow k (node_vars node) → AllBelow k (node_vars (compared_node held node))
   node_below (Start next) below = below
   node_below (Skip next) below = below
   node_below (Assign x rhs next) below = below
@@ -75,18 +74,6 @@ module _ (k : ℕ) (held : ℕ → Option Rhs) (low : (v : ℕ) (rhs : Rhs) → 
   node_below (Test test taken other) below = test_below test below
   node_below (Return a) below = below
 
--- ---- the compared nodes
-
-module _ (graph : GraphShape) (nodes : List Node) (are : AreCompared graph nodes) where
-  -- each node is put anew in its place
-  abbrev pub compared_by : IsNodeByNode graph.nodes nodes
-  compared_by = record { becomes = λ n. compared_node (are.held n); in_place = λ n. compared_in_place (are.held n); nodes_are = are.nodes_are }
-
-  -- assignments stay, and so divisions do
-  pub compared_divides : DividesUnchanged graph.nodes nodes
-  compared_divides = kept_divides graph.nodes nodes compared_by (λ n x op left right next may. refl)
-
-  pub compared_can_make : CanMake graph.vars graph.received graph.nodes → CanMake graph.vars graph.received nodes
-  compared_can_make can = kept_can graph.nodes nodes compared_by graph.vars graph.received can (λ n node here.
-      let low = found_below (λ x t. is_comparison t) graph can n (are.held n) (λ v. are.is_held n v (slice_get_within graph.nodes n node here)) in
-      node_below (length graph.vars) (are.held n) low node (can.below n node here))
+-- so does each new node
+pub compared_reads : ReadsWhatHolds compared_node
+compared_reads k held low node below = node_below k held low node below

@@ -1,6 +1,8 @@
 -- Nodes that do, at each frame of a run of a graph, what the graph does and count no more, make a graph that does the same.
--- At such a frame all values are signed 64-bit numbers.
-use Rattle.std.proofs.Common.{◌≡◌, ℕ, suc, Bool, true, false, if◌then◌else◌, List, [], ◌∷◌, slice_get, slice_index_or, ℤ, pos, Option, Some, None, refl, sym, subst, le_refl}
+-- At such a frame all values are signed 64-bit numbers. Its first part is cited by contracts, the rest
+-- by proofs alone, here and above.
+use Rattle.std.proofs.Common.{◌≡◌, ℕ, suc, ◌≤◌, Bool, true, false, if◌then◌else◌, List, [], ◌∷◌, slice_get, slice_index_or, ℤ, pos, Option, Some, None, refl, sym, ap, subst, le_refl}
+use Rattle.mir_base.specs.declared.instructions.Rhs.{Rhs}
 use Rattle.mir_base.specs.declared.operators.Trap.TheVariants.{ZeroDivisor, Raised}
 use Rattle.mir_base.specs.ExpressionLaws.{assign_is}
 use Rattle.mir_base.specs.Expressions.{rhs_count, rhs_traps, rhs_value}
@@ -11,7 +13,7 @@ use Rattle.mir_base.specs.NumberLaws.{zero_fits}
 use Rattle.mir_base.specs.Runs.{AreNumbers}
 use Rattle.mir_base.specs.Simulations.{HandsOver}
 use Rattle.mir_base.specs.UnitRuns.{IsCallAnswer, IsEntry, UnitCheaper, UnitSame}
-use Rattle.mir_base.specs.Units.{assigned, at, test_holds}
+use Rattle.mir_base.specs.Units.{assign_transition, assigned, at, test_holds}
 use Rattle.flow_graph.specs.declared.nodes.Node.{Node}
 use Rattle.flow_graph.specs.declared.nodes.Node.TheVariants.{Start, Skip, Assign, Print, Guard, Call, Test, Return}
 use Rattle.flow_graph.specs.Graphs.{GraphShape}
@@ -74,6 +76,39 @@ as_cheap (Calls unit entry into f) = (refl, refl, λ answer is. refl)
 as_cheap (Returns answer) = refl
 as_cheap (Traps kind n) = refl
 
+-- so is one that equals it
+pub same_as_cheap : (t t' : Transition) → t' ≡ t → AsCheap t t'
+same_as_cheap t t' same = subst (AsCheap t) (sym same) (as_cheap t)
+
+-- at each frame of a run of the graph these nodes do what the graph does, and count no more
+abbrev pub RunsAsCheap : GraphShape → List Node → Type 0
+RunsAsCheap graph nodes = (frame : Frame) → IsRunFrame (machine_of graph) frame → ValuesFit frame.values
+    → AsCheap (graph_code graph.shared graph.received graph.nodes frame)
+    (graph_code graph.shared graph.received nodes frame)
+
+-- the new right side traps where the old one does, gives the same, and counts no more
+pub record BecomesAsCheap (values : Values) (rhs new : Rhs) : Type 0 where
+  pub traps : rhs_traps values new ≡ rhs_traps values rhs
+  pub value : rhs_value values new ≡ rhs_value values rhs
+  pub counted : rhs_count new ≤ rhs_count rhs
+
+-- a right side that stays does
+pub becomes_itself : (values : Values) (rhs : Rhs) → BecomesAsCheap values rhs rhs
+becomes_itself values rhs = record { traps = refl; value = refl; counted = le_refl (rhs_count rhs) }
+
+-- so the assignment of the new one is as cheap as that of the old one
+pub assigns_cheap : (x : ℕ) (rhs new : Rhs) (next : ℕ) (f : Frame) → BecomesAsCheap f.values rhs new → AsCheap (assign_transition x rhs next f) (assign_transition x new next f)
+assigns_cheap x rhs new next f becomes =
+    subst (λ t. AsCheap t (assign_transition x new next f)) (sym (assign_is x rhs next f))
+    (subst (λ t. AsCheap (if rhs_traps f.values rhs then Traps ZeroDivisor 1 else Continues (rhs_count rhs) (assigned x (rhs_value f.values rhs) next f)) t) (sym (assign_is x new next f))
+    (by (rhs_traps f.values rhs) (rhs_traps f.values new) becomes.traps))
+  where
+    by : (b b' : Bool) → b' ≡ b → AsCheap (if b then Traps ZeroDivisor 1 else Continues (rhs_count rhs) (assigned x (rhs_value f.values rhs) next f)) (if b' then Traps ZeroDivisor 1 else Continues (rhs_count new) (assigned x (rhs_value f.values new) next f))
+    by true true same = refl
+    by false false same = (becomes.counted, ap (λ (v : ℤ). assigned x v next f) becomes.value)
+    by true false same = cc
+    by false true same = cc
+
 module _ (S : Frame → Frame → Type 0) where
   -- where a transition leads to a frame that is related to itself, it is related to what is as cheap
   alike_cheap : (t t' : Transition) → Alike S t t → AsCheap t t' → Alike S t t'
@@ -108,7 +143,7 @@ module _ (graph : GraphShape) where
   step_along (Returns answer) hands fits = refl
   step_along (Traps kind n) hands fits = refl
 
-  module _ (nodes : List Node) (cheap : (f : Frame) → IsRunFrame (machine_of graph) f → ValuesFit f.values → AsCheap (code f) (graph_code graph.shared graph.received nodes f)) where
+  module _ (nodes : List Node) (cheap : RunsAsCheap graph nodes) where
     steps : (f g : Frame) → IsRunFrame (machine_of graph) f → Along f g → Alike Along (code f) (graph_code graph.shared graph.received nodes g)
     steps f g comes on =
         let itself = step_along (code f) (graph_hands graph.shared graph.received graph.nodes f) (next_fits graph.shared graph.received (slice_get graph.nodes f.place) f on.fits) in

@@ -23,7 +23,7 @@ use Rattle.mir_base.specs.Numbers.{distance, is_dividing, traps, truth, unsigned
 use Rattle.mir_base.specs.Shapes.{rhs_vars}
 use Rattle.term_flow.specs.declared.reading.ByConstant.{ByConstant}
 use Rattle.term_flow.specs.Terms.{sum_with, value_by, joint_constant, joint_distance, left_read, over_by, read_binary, read_rhs, same_again, rhs_by, right_read, solution, difference_from, with_constant, shift_within}
-use Rattle.term_flow.proofs.NumberLaws.{add_add, add_nothing, add_solved, add_taken, and_twice, distance_is, eq_turned, max_turned, max_twice, min_turned, min_twice, mul_twice, neg_is_sub, or_twice, shl_twice, shr_twice, shra_twice, sub_add, sub_is_add, sub_solved, sub_taken, xor_nothing, xor_solved, xor_twice}
+use Rattle.term_flow.specs.NumberLaws.{add_add, add_nothing, add_solved, add_taken, and_twice, distance_is, eq_turned, max_turned, max_twice, min_turned, min_twice, mul_twice, neg_is_sub, or_twice, shl_twice, shr_twice, shra_twice, sub_add, sub_is_add, sub_solved, sub_taken, xor_nothing, xor_solved, xor_twice}
 
 -- ---- reading
 
@@ -75,7 +75,7 @@ pub never_traps : (op : Op) (b : ℤ) → is_dividing op ≡ false → traps op 
 never_traps op b undivided = rw undivided refl
 
 -- the right side never traps, counts once, and gives what this variable and this constant do
-pub record Reads (values : Values) (rhs : Rhs) (t : ByConstant) : Type 0 where
+pub record ReadsTerm (values : Values) (rhs : Rhs) (t : ByConstant) : Type 0 where
   pub value : rhs_value values rhs ≡ value_by t.op (values t.var) t.constant
   pub fits : FitsSigned w64 t.constant
   pub never : rhs_traps values rhs ≡ false
@@ -88,7 +88,7 @@ zero_is = int_wrap_fits w64 (pos 0) zero_fits
 
 module _ (values : Values) where
   -- an operator on two operands
-  binary_reads : (op : Op) (a b : Operand) (t : ByConstant) → read_binary op a b ≡ Some t → Reads values (Binary op a b) t
+  binary_reads : (op : Op) (a b : Operand) (t : ByConstant) → read_binary op a b ≡ Some t → ReadsTerm values (Binary op a b) t
   binary_reads op (Var x) (Var y) t e = cc
   binary_reads op (Const c) (Const d) t e = cc
   binary_reads op (Var x) (Const c) t e =
@@ -111,7 +111,7 @@ module _ (values : Values) where
       }
 
   -- any right side
-  pub reads : (rhs : Rhs) (t : ByConstant) → read_rhs rhs ≡ Some t → Reads values rhs t
+  pub reads : (rhs : Rhs) (t : ByConstant) → read_rhs rhs ≡ Some t → ReadsTerm values rhs t
   reads (Plain a) t e = cc
   reads (Unary Neg (Const c)) t e = cc
   reads (Unary Not (Const c)) t e = cc
@@ -126,7 +126,7 @@ module _ (values : Values) where
 -- ---- one on another
 
 -- where the variable has a value in range, this gives what the variable and the constant do
-pub record IsOver (g : ℤ → ℤ) (x : ℕ) (s : ByConstant) : Type 0 where
+pub record IsTermOver (g : ℤ → ℤ) (x : ℕ) (s : ByConstant) : Type 0 where
   pub gives : (v : ℤ) → FitsSigned w64 v → g v ≡ value_by s.op v s.constant
   pub fits : FitsSigned w64 s.constant
   pub var_is : s.var ≡ x
@@ -135,7 +135,7 @@ pub record IsOver (g : ℤ → ℤ) (x : ℕ) (s : ByConstant) : Type 0 where
 -- so it is where there is one
 abbrev pub IfOver : (ℤ → ℤ) → ℕ → Option ByConstant → Type 0
 IfOver g x None = Unit {0}
-IfOver g x (Some s) = IsOver g x s
+IfOver g x (Some s) = IsTermOver g x s
 
 -- sums
 sum_holds : (c : ℤ) (q : Op) (x : ℕ) (k : ℤ) → IfOver (λ v. value_by Add (value_by q v k) c) x (sum_with c q x k)

@@ -1,8 +1,8 @@
 -- What is read in the place of a copy has its value, so what reads the one does the same as what reads the other.
-use Rattle.std.proofs.Common.{◌≡◌, ℕ, ◌<◌, Bool, true, false, not, if◌then◌else◌, nat_eq, inl, inr, eqb-true, ℤ, pos, List, [], ◌∷◌, length, map, slice_get, Option, Some, None, option_map, refl, sym, ap, ◌∙◌, true≢false}
+-- For proofs only.
+use Rattle.std.proofs.Common.{◌≡◌, ℕ, Bool, true, false, not, if◌then◌else◌, nat_eq, eqb-true, ℤ, pos, List, [], ◌∷◌, map, Option, Some, None, refl, sym, ap, ◌∙◌, true≢false}
 use Rattle.std.proofs.Math.Path.{fun_ext}
 use Rattle.std.specs.Ordering.{int_eq}
-use Rattle.std.proofs.lemmas.Option.{slice_get_within}
 use Rattle.mir_base.specs.declared.instructions.Operand.{Operand}
 use Rattle.mir_base.specs.declared.instructions.Operand.TheVariants.{Var, Const}
 use Rattle.mir_base.specs.declared.instructions.Rhs.{Rhs}
@@ -17,11 +17,14 @@ use Rattle.flow_graph.specs.declared.nodes.Node.{Node}
 use Rattle.flow_graph.specs.declared.nodes.Node.TheVariants.{Start, Skip, Assign, Print, Guard, Call, Test, Return}
 use Rattle.flow_graph.specs.Graphs.{GraphShape}
 use Rattle.flow_graph.specs.ListLaws.{cons_same}
-use Rattle.flow_graph.specs.Machines.{graph_code, node_transition}
+use Rattle.flow_graph.specs.Machines.{node_transition}
 use Rattle.flow_graph.specs.Numbering.{renamed_operand, renamed_rhs, renamed_test}
+use Rattle.held_assign.specs.CheapRuns.{same_as_cheap}
+use Rattle.held_assign.specs.HeldPasses.{DoesAsTheOld}
 use Rattle.held_assign.specs.HeldValues.{AgreesThere}
-use Rattle.copy_flow.specs.Copied.{AreCopied, reread_node}
-use Rattle.copy_flow.specs.Copies.{IsReadFor, is_var}
+use Rattle.held_assign.specs.Holding.{IsHeldRhs}
+use Rattle.copy_flow.specs.Copied.{copied_node, reread_node}
+use Rattle.copy_flow.specs.Copies.{is_copy, is_var, read_for}
 
 -- a variable that is assigned its own value changes nothing
 own_value : (x : ℕ) (values : Values) → with_value x (values x) values ≡ values
@@ -84,16 +87,15 @@ module _ (read : ℕ → ℕ) (f : Frame) (same : (v : ℕ) → f.values (read v
 -- ---- at a frame
 
 -- where what holds agrees, what is read for a variable has its value
-read_same : (graph : GraphShape) (f : Frame) → AgreesThere graph f → (v w : ℕ) → IsReadFor graph v w f.place → f.values w ≡ f.values v
-read_same graph f agrees v w (inl copy) = sym (agrees v (Plain (Var w)) copy)
-read_same graph f agrees v w (inr none) = ap f.values none.0
+read_same : (graph : GraphShape) (f : Frame) → AgreesThere graph f → (v : ℕ) (rhs : Option Rhs) → IsHeldRhs is_copy graph f.place v rhs → f.values (read_for v rhs) ≡ f.values v
+read_same graph f agrees v None none = refl
+read_same graph f agrees v (Some (Plain (Var w))) is = sym (agrees v (Plain (Var w)) is.1)
+read_same graph f agrees v (Some (Plain (Const c))) is = refl
+read_same graph f agrees v (Some (Unary op a)) is = refl
+read_same graph f agrees v (Some (Binary op a b)) is = refl
 
--- so the copied nodes do there what the nodes of the graph do
-pub code_same : (graph : GraphShape) (nodes : List Node) → AreCopied graph nodes → (f : Frame) → AgreesThere graph f → graph_code graph.shared graph.received nodes f ≡ graph_code graph.shared graph.received graph.nodes f
-code_same graph nodes are f agrees = ap (λ o. node_transition graph.shared graph.received o f) (are.nodes_are f.place) ∙ by (slice_get graph.nodes f.place) refl
-  where
-    by : (o : Option Node) → slice_get graph.nodes f.place ≡ o → node_transition graph.shared graph.received (option_map (reread_node (are.read f.place)) o) f ≡ node_transition graph.shared graph.received o f
-    by None here = refl
-    by (Some node) here =
-        let lt : f.place < length graph.nodes = slice_get_within graph.nodes f.place node here in
-        node_same (are.read f.place) f (λ v. read_same graph f agrees v (are.read f.place v) (are.is_read f.place v lt)) graph.shared graph.received node
+-- so the new node does there what the old one does
+pub copied_does : DoesAsTheOld is_copy copied_node
+copied_does graph f held is_held agrees fits node =
+    same_as_cheap (node_transition graph.shared graph.received (Some node) f) (node_transition graph.shared graph.received (Some (copied_node held node)) f)
+    (node_same (λ v. read_for v (held v)) f (λ v. read_same graph f agrees v (held v) (is_held v)) graph.shared graph.received node)

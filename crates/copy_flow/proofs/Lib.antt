@@ -1,4 +1,0 @@
-pub mod Meaning
-pub mod Shapes
-pub mod Found
-pub mod Rereads
