@@ -1,5 +1,5 @@
 -- The lines that say what is known before each node. Cited by contracts, those of the crates above too.
-use Rattle.std.specs.Prelude.{◌≡◌, ℕ, List, [], ◌++◌, codes, decimal, flat_map, Option, Some, None}
+use Rattle.std.specs.Prelude.{◌≡◌, ℕ, List, [], ◌++◌, codes, Option}
 use Rattle.std.specs.Fmt.{signed_decimal}
 use Rattle.flow_graph.specs.Graphs.{GraphShape}
 use Rattle.bounds.specs.declared.ends.End.{End}
@@ -9,6 +9,7 @@ use Rattle.bounds.specs.declared.facts.Fact.TheVariants.{Never, Fixed, Between}
 use Rattle.bounds.specs.BoundRules.{bound_rules}
 use Rattle.bounds.specs.Facts.{BelowFact}
 use Rattle.cond_flow.specs.KnownBefore.{IsKnownBefore}
+use Rattle.table_text.specs.Known.{state_line}
 use Rattle.table_text.specs.Lines.{field}
 
 -- the number of an end; past the least and the greatest there is none, and they are left out
@@ -38,17 +39,8 @@ fact_text Never = codes " never"
 fact_text (Fixed value) = field (signed_decimal value)
 fact_text (Between low high) = interval_text low high
 
--- what is known of all variables, or that no run comes to the node
-abbrev pub facts_text : Option (List Fact) → List ℕ
-facts_text None = codes " unreached"
-facts_text (Some known) = flat_map fact_text known
-
--- the line of a node of which this is known
-abbrev pub bound_line : ℕ → Option (List Fact) → List ℕ
-bound_line node known = codes "state" ++ field (decimal node) ++ facts_text known ++ codes "\n"
-
 -- the line is that of what the least bounds of the graph say of the node
 pub record IsBoundLine (graph : GraphShape) (node : ℕ) (line : List ℕ) : Type 0 where
   pub known : Option (List Fact)
   pub is_known : IsKnownBefore BelowFact bound_rules graph node known
-  pub line_is : line ≡ bound_line node known
+  pub line_is : line ≡ state_line fact_text node known

@@ -17,15 +17,15 @@ use Rattle.unit_join.specs.LeafTests.{IsLeafTest}
 -- ---- leaves
 
 -- which unit is called first, and this text where none is
-abbrev pub called_text : List (List ℕ) → List ℕ → Option ℕ → List ℕ
-called_text names none None = none
-called_text names none (Some unit) = codes " calls" ++ name_field names unit
+abbrev pub first_called_text : List (List ℕ) → List ℕ → Option ℕ → List ℕ
+first_called_text names none None = none
+first_called_text names none (Some unit) = codes " calls" ++ name_field names unit
 
 -- that a unit is a leaf, or why it is none: it is long, or calls this unit first
 abbrev pub why_text : List (List ℕ) → Bool → Option ℕ → List ℕ
 why_text names long calls =
-    if long then field (codes "long") ++ called_text names [] calls
-    else called_text names (codes " leaf") calls
+    if long then field (codes "long") ++ first_called_text names [] calls
+    else first_called_text names (codes " leaf") calls
 
 -- the line of the unit of this number: its name, how many instructions it has, and what decides whether it is a leaf
 abbrev pub body_line : List (List ℕ) → ℕ → LeafTest → List ℕ
@@ -55,20 +55,20 @@ call_line names leaves number unit =
     ++ became_text (leaf_at leaves unit) ++ codes "\n"
 
 -- the line of a node, where it is a call
-abbrev pub node_line : List (List ℕ) → List (Option GraphShape) → ℕ → Node → List ℕ
-node_line names leaves number (Call into unit operands next) = call_line names leaves number unit
-node_line names leaves number _ = []
+abbrev pub join_line : List (List ℕ) → List (Option GraphShape) → ℕ → Node → List ℕ
+join_line names leaves number (Call into unit operands next) = call_line names leaves number unit
+join_line names leaves number _ = []
 
 -- the same of a node that may be absent
-abbrev pub line_at : List (List ℕ) → List (Option GraphShape) → ℕ → Option Node → List ℕ
-line_at names leaves number None = []
-line_at names leaves number (Some node) = node_line names leaves number node
+abbrev pub join_at : List (List ℕ) → List (Option GraphShape) → ℕ → Option Node → List ℕ
+join_at names leaves number None = []
+join_at names leaves number (Some node) = join_line names leaves number node
 
 -- the lines of the first nodes, of which there are so many
 abbrev pub calls_below : List (List ℕ) → List (Option GraphShape) → List Node → ℕ → List ℕ
 calls_below names leaves nodes zero = []
 calls_below names leaves nodes (suc n) =
-    calls_below names leaves nodes n ++ line_at names leaves n (slice_get nodes n)
+    calls_below names leaves nodes n ++ join_at names leaves n (slice_get nodes n)
 
 -- ---- units
 

@@ -21,25 +21,25 @@ position_text Global = field (codes "global")
 position_text (Then node) = codes " then" ++ field (decimal node)
 
 -- the line of a call: its node, the unit that it calls, and how it stands
-abbrev pub call_line : List (List ℕ) → ℕ → CallPosition → List ℕ
-call_line names node call =
+abbrev pub tail_line : List (List ℕ) → ℕ → CallPosition → List ℕ
+tail_line names node call =
     codes "call" ++ field (decimal node) ++ name_field names call.unit
     ++ position_text call.position ++ codes "\n"
 
 -- the line of a node, where it is a call
 abbrev pub entry_line : List (List ℕ) → ℕ → Option CallPosition → List ℕ
 entry_line names node None = []
-entry_line names node (Some call) = call_line names node call
+entry_line names node (Some call) = tail_line names node call
 
 -- the same of an entry that may be absent
-abbrev pub line_at : List (List ℕ) → ℕ → Option (Option CallPosition) → List ℕ
-line_at names node None = []
-line_at names node (Some entry) = entry_line names node entry
+abbrev pub tail_at : List (List ℕ) → ℕ → Option (Option CallPosition) → List ℕ
+tail_at names node None = []
+tail_at names node (Some entry) = entry_line names node entry
 
 -- the lines of the first nodes, of which there are so many
-abbrev pub calls_below : List (List ℕ) → List (Option CallPosition) → ℕ → List ℕ
-calls_below names calls zero = []
-calls_below names calls (suc n) = calls_below names calls n ++ line_at names n (slice_get calls n)
+abbrev pub tails_below : List (List ℕ) → List (Option CallPosition) → ℕ → List ℕ
+tails_below names calls zero = []
+tails_below names calls (suc n) = tails_below names calls n ++ tail_at names n (slice_get calls n)
 
 -- ---- units
 
@@ -48,7 +48,7 @@ pub record TellsCalls (units : List UnitShape) (number : ℕ) (graph : GraphShap
     : Type 0 where
   pub calls : List (Option CallPosition)
   pub are : AreCallPositions graph number calls
-  pub text_is : text ≡ calls_below (names_of_units units) calls (length calls)
+  pub text_is : text ≡ tails_below (names_of_units units) calls (length calls)
 
 -- the text is that of each unit of the program in turn: of the graphs that the pass makes of it, and of how each call of
 -- its cleaned graph stands

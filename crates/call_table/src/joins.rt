@@ -4,7 +4,7 @@ ghost use Rattle.mir_base.specs.Appending.{AppendsOnOk};
 ghost use Rattle.table_text.specs.Lines.{names_of_units};
 ghost use Rattle.unit_join.specs.JoinPrograms.{AreLeavesMade};
 ghost use Rattle.unit_join.specs.Joins.{leaf_at};
-ghost use Rattle.call_table.specs.Joins.{IsBodyAt, IsJoinedAt, ShowsJoins, became_text, body_line, call_line, called_text, calls_below, joined_text, laid_line, node_line, taken_text, why_text};
+ghost use Rattle.call_table.specs.Joins.{IsBodyAt, IsJoinedAt, ShowsJoins, became_text, body_line, call_line, first_called_text, calls_below, joined_text, laid_line, join_line, taken_text, why_text};
 
 use flow_graph::Node;
 use mir_base::{MOST_INSTS, Memory, Program, Unit as MirUnit};
@@ -97,7 +97,7 @@ fn put_called(
     none: &[u8],
 ) -> Result<(), Memory>
     ensures { AppendsOnOk result text.old text.new
-        (called_text (names_of_units units.now) none.now called) }
+        (first_called_text (names_of_units units.now) none.now called) }
 {
     match called {
         None => text.extend_from_slice(none),
@@ -199,7 +199,7 @@ fn put_node(
     node: &Node,
 ) -> Result<(), Memory>
     ensures { AppendsOnOk result text.old text.new
-        (node_line (names_of_units units.now) leaves.now.units number node.now) }
+        (join_line (names_of_units units.now) leaves.now.units number node.now) }
 {
     match node {
         Node::Call(_, unit, _, _) => put_call(text, units, leaves, number, *unit),

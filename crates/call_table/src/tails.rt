@@ -3,7 +3,7 @@ ghost use Rattle.std.specs.Prelude.{IfOk, length};
 ghost use Rattle.mir_base.specs.Appending.{AppendsOnOk};
 ghost use Rattle.table_text.specs.Lines.{names_of_units};
 ghost use Rattle.tail_loop.specs.Tails.{Tailed};
-ghost use Rattle.call_table.specs.Tails.{ShowsTails, TellsCalls, call_line, calls_below, entry_line, position_text};
+ghost use Rattle.call_table.specs.Tails.{ShowsTails, TellsCalls, tail_line, tails_below, entry_line, position_text};
 
 use flow_graph::Graph;
 use mir_base::{Memory, Program, Unit as MirUnit};
@@ -56,7 +56,7 @@ fn put_calls(
     calls: &[Option<CallPosition>],
 ) -> Result<(), Memory>
     ensures { AppendsOnOk result text.old text.new
-        (calls_below (names_of_units units.now) calls.now (length calls.now)) }
+        (tails_below (names_of_units units.now) calls.now (length calls.now)) }
 {
     for node in 0..calls.len() {
         let entry = &calls[node];
@@ -89,7 +89,7 @@ fn put_call(
     call: CallPosition,
 ) -> Result<(), Memory>
     ensures { AppendsOnOk result text.old text.new
-        (call_line (names_of_units units.now) node call) }
+        (tail_line (names_of_units units.now) node call) }
 {
     text.extend_from_slice(b"call")?;
     put_count(text, node)?;

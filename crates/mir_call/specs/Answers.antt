@@ -36,11 +36,16 @@ pub record HasNoMemory (out err : Stream) (status : ℕ) : Type 0 where
   pub silent : Untouched out
   pub told : Tried err out_of_memory.line
 
--- `top` was called with the words that the bytes spell, and with no words where they spell none; or there was no memory
--- for the words
+-- the call was made with the words that the bytes spell, and with these others where they spell none; or there was no
+-- memory for the words
+abbrev pub IsAnswerOf : (List (List ℕ) → List ℕ → Stream → Stream → ℕ → Type 0) → List (List ℕ)
+    → List ℕ → List ℕ → Stream → Stream → ℕ → Type 0
+IsAnswerOf IsCall otherwise bytes text out err status =
+    IsCall (unwrap_or (words_in bytes) otherwise) text out err status ⊎ HasNoMemory out err status
+
+-- `top` was called so, with no words where the bytes spell none
 abbrev pub IsAnswer : List ℕ → List ℕ → Stream → Stream → ℕ → Type 0
-IsAnswer bytes text out err status =
-    HasCalled (unwrap_or (words_in bytes) []) text out err status ⊎ HasNoMemory out err status
+IsAnswer = IsAnswerOf HasCalled []
 
 -- a call of `tables` with these words, whose source has this text and never fails, ended with this status: all promises
 -- of `tables` hold of it
@@ -54,12 +59,9 @@ pub record HasTabled
     status = status;
   })
 
--- `tables` was called with the words that the bytes spell, and with one empty word, which asks for no tables, where they
--- spell none; or there was no memory for the words
+-- `tables` was called so, with one empty word, which asks for no tables, where the bytes spell none
 abbrev pub IsTableAnswer : List ℕ → List ℕ → Stream → Stream → ℕ → Type 0
-IsTableAnswer bytes text out err status =
-    HasTabled (unwrap_or (words_in bytes) ([] ∷ [])) text out err status
-    ⊎ HasNoMemory out err status
+IsTableAnswer = IsAnswerOf HasTabled ([] ∷ [])
 
 -- ---- what stands in the rooms
 

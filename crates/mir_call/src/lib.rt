@@ -7,6 +7,7 @@
 #![tactic(auto)]
 
 mod answers;
+mod calls;
 mod sink;
 mod source;
 mod spelled;

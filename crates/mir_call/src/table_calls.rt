@@ -1,14 +1,12 @@
 // The call of `tables`.
-ghost use Rattle.std.specs.Prelude.{◌≢◌};
-ghost use Rattle.mir_top.specs.Commands.{word_bytes};
-ghost use Rattle.mir_call.specs.Answers.{HasAnswered, HasTabled, IsTableAnswer, kept_by};
+ghost use Rattle.std.specs.Prelude.{◌≢◌, [], ◌∷◌};
+ghost use Rattle.mir_call.specs.Answers.{HasAnswered, HasTabled, IsTableAnswer};
 
 use crate::CallAnswer;
-use crate::sink::{GrowSink, LINE_ROOM, put};
+use crate::calls::{Command, called};
+use crate::sink::GrowSink;
 use crate::source::SliceSource;
-use crate::spelled::words_in;
 use mir_table::tables;
-use mir_top::complain_of_memory;
 use std::alloc::Global;
 
 /// Puts the tables that the words ask for of the program of this text into `out`, and the line of complaint into
@@ -26,46 +24,30 @@ pub fn call_tables(
         out.old out.new line.old line.new result }
     ensures no_read_fault { result.status ≢ 6 }
 {
-    // The memory for the line is taken first, so that it can be written also where memory runs out.
-    let mut complaint = GrowSink::new(alloc, LINE_ROOM);
-    let mut output = GrowSink::new(alloc, 0);
-    let status = status_of_spelled(alloc, words, text, &mut output, &mut complaint);
-    CallAnswer {
-        status,
-        output: put(&output.bytes, out),
-        complaint: put(&complaint.bytes, line),
-    }
+    called::<Tables>(alloc, words, text, out, line)
 }
 
-/// The status of `tables` with the words that the bytes spell.
-fn status_of_spelled(
-    alloc: Global,
-    words: &[u8],
-    text: &[u8],
-    out: &mut GrowSink,
-    err: &mut GrowSink,
-) -> u8
-    ensures { IsTableAnswer words.now text.now
-        (kept_by out.old out.new) (kept_by err.old err.new) result }
-{
-    match words_in(alloc, words) {
-        Ok(Some(words)) => status_of_tables(alloc, &words, text, out, err),
-        Ok(None) => status_of_tables(alloc, &[String::new(alloc)], text, out, err),
-        Err(_) => complain_of_memory(err),
-    }
-}
+/// `tables`, with one empty word where the bytes spell none.
+struct Tables;
 
-/// The status of `tables` with these words and this text.
-fn status_of_tables(
-    alloc: Global,
-    words: &[String],
-    text: &[u8],
-    out: &mut GrowSink,
-    err: &mut GrowSink,
-) -> u8
-    ensures { HasTabled (word_bytes words.now) text.now
-        (kept_by out.old out.new) (kept_by err.old err.new) result }
-{
-    let mut source = SliceSource { left: text };
-    tables(alloc, words, &mut source, out, err)
+impl Command for Tables {
+    ghost is_call = { HasTabled };
+
+    ghost otherwise = { [] ∷ [] };
+
+    fn status(
+        alloc: Global,
+        words: &[String],
+        text: &[u8],
+        out: &mut GrowSink,
+        err: &mut GrowSink,
+    ) -> u8 {
+        let mut source = SliceSource { left: text };
+        tables(alloc, words, &mut source, out, err)
+    }
+
+    fn status_otherwise(alloc: Global, text: &[u8], out: &mut GrowSink, err: &mut GrowSink) -> u8 {
+        let mut source = SliceSource { left: text };
+        tables(alloc, &[String::new(alloc)], &mut source, out, err)
+    }
 }

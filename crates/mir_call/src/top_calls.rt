@@ -1,13 +1,12 @@
 // The call of `top`.
-ghost use Rattle.std.specs.Prelude.{◌≢◌};
-ghost use Rattle.mir_top.specs.Commands.{word_bytes};
-ghost use Rattle.mir_call.specs.Answers.{HasCalled, IsAnswer, HasAnswered, kept_by};
+ghost use Rattle.std.specs.Prelude.{◌≢◌, []};
+ghost use Rattle.mir_call.specs.Answers.{HasAnswered, HasCalled, IsAnswer};
 
 use crate::CallAnswer;
-use crate::sink::{GrowSink, LINE_ROOM, put};
+use crate::calls::{Command, called};
+use crate::sink::GrowSink;
 use crate::source::SliceSource;
-use crate::spelled::words_in;
-use mir_top::{complain_of_memory, top};
+use mir_top::top;
 use std::alloc::Global;
 
 /// Does what the words ask with this text, and puts the output and the line of complaint into the rooms, as much of
@@ -24,46 +23,30 @@ pub fn call_top(
         out.old out.new line.old line.new result }
     ensures no_read_fault { result.status ≢ 6 }
 {
-    // The memory for the line is taken first, so that it can be written also where memory runs out.
-    let mut complaint = GrowSink::new(alloc, LINE_ROOM);
-    let mut output = GrowSink::new(alloc, 0);
-    let status = status_of_spelled(alloc, words, text, &mut output, &mut complaint);
-    CallAnswer {
-        status,
-        output: put(&output.bytes, out),
-        complaint: put(&complaint.bytes, line),
-    }
+    called::<Top>(alloc, words, text, out, line)
 }
 
-/// The status of the call with the words that the bytes spell.
-fn status_of_spelled(
-    alloc: Global,
-    words: &[u8],
-    text: &[u8],
-    out: &mut GrowSink,
-    err: &mut GrowSink,
-) -> u8
-    ensures { IsAnswer words.now text.now
-        (kept_by out.old out.new) (kept_by err.old err.new) result }
-{
-    match words_in(alloc, words) {
-        Ok(Some(words)) => status_of(alloc, &words, text, out, err),
-        Ok(None) => status_of(alloc, &[], text, out, err),
-        Err(_) => complain_of_memory(err),
-    }
-}
+/// `top`, with no words where the bytes spell none.
+struct Top;
 
-/// The status of the call with these words.
-fn status_of(
-    alloc: Global,
-    words: &[String],
-    text: &[u8],
-    out: &mut GrowSink,
-    err: &mut GrowSink,
-) -> u8
-    ensures { HasCalled (word_bytes words.now) text.now
-        (kept_by out.old out.new) (kept_by err.old err.new) result }
-{
-    let mut source = SliceSource { left: text };
-    top(alloc, words, &mut source, out, err).status
+impl Command for Top {
+    ghost is_call = { HasCalled };
+
+    ghost otherwise = { [] };
+
+    fn status(
+        alloc: Global,
+        words: &[String],
+        text: &[u8],
+        out: &mut GrowSink,
+        err: &mut GrowSink,
+    ) -> u8 {
+        let mut source = SliceSource { left: text };
+        top(alloc, words, &mut source, out, err).status
+    }
+
+    fn status_otherwise(alloc: Global, text: &[u8], out: &mut GrowSink, err: &mut GrowSink) -> u8 {
+        let mut source = SliceSource { left: text };
+        top(alloc, &[], &mut source, out, err).status
+    }
 }

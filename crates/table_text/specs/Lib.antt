@@ -1,5 +1,6 @@
 pub mod Columns
 pub mod Lines
+pub mod Known
 pub mod Nodes
 pub mod Rows
 pub mod Steps

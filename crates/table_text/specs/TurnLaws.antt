@@ -1,6 +1,6 @@
 -- Laws: a text that is made of pieces in turn grows by one piece, and so does what a function appends. For proofs only,
 -- those of the crates above too.
-use Rattle.std.proofs.Common.{◌≡◌, ℕ, ◌+◌, List, [], ◌++◌, Vec, refl, sym, subst, ◌∙◌, ap, append_assoc, add-one}
+use Rattle.std.proofs.Common.{◌≡◌, ℕ, zero, suc, ◌+◌, List, [], ◌++◌, Vec, refl, sym, subst, ◌∙◌, ap, append_assoc, add-one}
 use Rattle.std.proofs.lemmas.List.{append-nil}
 use Rattle.table_text.specs.Turns.{AppendsSome, InTurn}
 
@@ -27,3 +27,9 @@ two_pieces start mid end a b first second = second ∙ ap (λ (l : List ℕ). l 
 -- nothing is appended
 pub no_piece : {A : Type 0} (Is : List ℕ → Type 0) (start : Vec ℕ A) → Is [] → AppendsSome Is start start
 no_piece Is start is = ([], is, sym (append-nil start.items))
+
+-- what is so of each piece is said of all of them
+pub turns_as : (IsPiece IsOther : ℕ → List ℕ → Type 0) → ((n : ℕ) (piece : List ℕ) → IsPiece n piece → IsOther n piece)
+    → (count : ℕ) (text : List ℕ) → InTurn IsPiece count text → InTurn IsOther count text
+turns_as IsPiece IsOther becomes zero text is = is
+turns_as IsPiece IsOther becomes (suc n) text is = (is.0, is.1, turns_as IsPiece IsOther becomes n is.0 is.2, becomes n is.1 is.3, is.4)
