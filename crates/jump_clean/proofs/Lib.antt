@@ -7,3 +7,4 @@ pub mod Preds
 pub mod Cleans
 pub mod CallsKept
 pub mod NoJumps
+pub mod Parting

@@ -1,6 +1,7 @@
 pub mod Chains
 pub mod Reductions
 pub mod Cleaned
+pub mod Parting
 pub mod ChainLaws
 pub mod ReductionLaws
 pub mod Following

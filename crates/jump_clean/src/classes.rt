@@ -9,7 +9,7 @@ use smallvec::SmallVec;
 use std::alloc::Global;
 
 /// The members of a class, in a list that has room in itself for the few that most classes come to.
-type Members = SmallVec<usize, 6>;
+type Members = SmallVec<usize, 4>;
 
 /// The number of the class of each node, and the members of each class.
 #[derive(Drop)]

@@ -1,15 +1,17 @@
 // Graphs with clean jumps.
 ghost use Rattle.std.specs.Prelude.{◌≡◌, ◌↔◌, false, length, map, IfOk};
+ghost use Rattle.flow_graph.specs.Edges.{edges_of};
 ghost use Rattle.flow_graph.specs.Graphs.{AllWithin};
 ghost use Rattle.flow_graph.specs.Retained.{redirected_by};
 ghost use Rattle.flow_graph.specs.Passes.{GraphDividesUnchanged, GraphKeeps};
 ghost use Rattle.jump_clean.specs.Cleaned.{AreCleaned, HasCleanJumps, IsClean, IsOnlyClean};
+ghost use Rattle.jump_clean.specs.Parting.{AreJumpEdges, AreParts, AreCleanParts};
 ghost use Rattle.jump_clean.specs.Reductions.{AreReduced, HaveNoJumps, is_jump};
 
 use crate::chains::ends;
 use crate::reducing::reduce_all;
 use flow_graph::{Edges, Graph, Node, redirect};
-use mir_base::Memory;
+use mir_base::{Items, Memory, Operand};
 use std::alloc::Global;
 
 /// The graph with clean jumps. The end of a chain is found by following Skips from a node: the first node that is no
@@ -33,46 +35,113 @@ pub fn clean(alloc: Global, graph: &Graph) -> Result<Graph, Memory>
     // each dividing assignment stays as it is, with its operands
     ensures divides { IfOk result (GraphDividesUnchanged graph.now) }
 {
-    let _nodes = graph.nodes();
-    let nodes = cleaned(alloc, graph)?;
-    let cleaned = graph.with_nodes(alloc, nodes)?;
+    let copy = copied(alloc, graph)?;
+    let cleaned = into_clean(alloc, copy)?;
     Ok(cleaned)
 }
 
-/// The nodes, of which tests that make no difference have become Skips and successors ends of chain. Where no node is a
-/// jump they stay as they are.
-fn cleaned(alloc: Global, graph: &Graph) -> Result<Vec<Node>, Memory>
-    ensures { IfOk result (λ cleaned. AreCleaned graph.now.nodes cleaned.items) }
+/// The graph with clean jumps, as `clean` makes it, of a graph that is let go: its nodes do not stand in memory twice.
+/// It fails only with `Memory`.
+pub fn into_clean(alloc: Global, graph: Graph) -> Result<Graph, Memory>
+    ensures clean { IfOk result (IsClean graph) }
+    ensures only { IfOk result (IsOnlyClean graph) }
+    ensures jumps { IfOk result (λ cleaned. HasCleanJumps cleaned.nodes) }
+    ensures keeps { IfOk result (GraphKeeps graph) }
+    ensures divides { IfOk result (GraphDividesUnchanged graph) }
+{
+    let _nodes = graph.nodes();
+    let parted = clean_parts(alloc, graph)?;
+    let InParts { frame, nodes } = parted;
+    let cleaned = frame.with_nodes(alloc, nodes)?;
+    Ok(cleaned)
+}
+
+/// The nodes of a graph, and a graph of two nodes that has all else of it.
+#[derive(Drop)]
+pub(crate) struct InParts {
+    pub(crate) frame: Graph,
+    pub(crate) nodes: Vec<Node>,
+}
+
+/// The cleaned nodes of a graph, and a graph that has all else of it. The edges are let go with the call.
+fn clean_parts(alloc: Global, graph: Graph) -> Result<InParts, Memory>
+    ensures { IfOk result (AreCleanParts graph) }
+{
+    let _nodes = graph.nodes();
+    let edges = jump_edges(alloc, &graph)?;
+    let whole = parts_of(alloc, graph)?;
+    let InParts { frame, nodes } = whole;
+    let nodes = cleaned(alloc, edges, nodes)?;
+    Ok(InParts { frame, nodes })
+}
+
+/// The nodes of a graph as they are, and a graph that has all else of it.
+fn parts_of(alloc: Global, graph: Graph) -> Result<InParts, Memory>
+    ensures { IfOk result (AreParts graph) }
+{
+    let mut two = Vec::with_capacity(alloc, 2)?;
+    two.push_reserved(Node::Start(1));
+    two.push_reserved(Node::Return(Operand::Const(0)));
+    let parts = graph.into_parts();
+    let frame = Graph::of_parts(
+        alloc,
+        parts.name,
+        parts.shared,
+        parts.vars,
+        parts.received,
+        two,
+    );
+    Ok(InParts {
+        frame,
+        nodes: parts.nodes,
+    })
+}
+
+/// The edges of a graph, where one of its nodes is a jump.
+fn jump_edges(alloc: Global, graph: &Graph) -> Result<Option<Edges>, Memory>
+    ensures { IfOk result (AreJumpEdges graph.now.nodes) }
 {
     let nodes = graph.nodes();
-    let nodes = copied(alloc, nodes)?;
-    if any_jump(nodes.as_slice()) {
-        changed(alloc, graph, nodes)
+    if any_jump(nodes) {
+        let edges = Edges::of(alloc, graph)?;
+        Ok(Some(edges))
     } else {
-        Ok(nodes)
+        Ok(None)
+    }
+}
+
+/// The nodes, of which tests that make no difference have become Skips and successors ends of chain. Where no node is a
+/// jump, they have no edges here and stay as they are.
+fn cleaned(alloc: Global, edges: Option<Edges>, nodes: Vec<Node>) -> Result<Vec<Node>, Memory>
+    requires within { AllWithin nodes.items }
+    requires edges { AreJumpEdges nodes.items edges }
+    ensures { IfOk result (λ cleaned. AreCleaned nodes.items cleaned.items) }
+{
+    match edges {
+        Some(edges) => changed(alloc, edges, nodes),
+        None => Ok(nodes),
     }
 }
 
 /// The nodes, of which tests that make no difference have become Skips and successors ends of chain, also where some
 /// node is a jump.
-fn changed(alloc: Global, graph: &Graph, nodes: Vec<Node>) -> Result<Vec<Node>, Memory>
+fn changed(alloc: Global, edges: Edges, nodes: Vec<Node>) -> Result<Vec<Node>, Memory>
     requires within { AllWithin nodes.items }
-    requires copied { nodes.items ≡ graph.now.nodes }
-    ensures { IfOk result (λ cleaned. AreCleaned graph.now.nodes cleaned.items) }
+    requires edges { edges ≡ edges_of nodes.items }
+    ensures { IfOk result (λ cleaned. AreCleaned nodes.items cleaned.items) }
 {
-    let reduced = reduced(alloc, graph, nodes)?;
+    let reduced = reduced(alloc, edges, nodes)?;
     let ends = ends(alloc, reduced.as_slice())?;
     let cleaned = redirect_all(alloc, reduced, ends.as_slice())?;
     Ok(cleaned)
 }
 
-/// The nodes of the graph, of which tests that make no difference have become Skips.
-fn reduced(alloc: Global, graph: &Graph, nodes: Vec<Node>) -> Result<Vec<Node>, Memory>
+/// The nodes, of which tests that make no difference have become Skips. Their edges are let go.
+fn reduced(alloc: Global, edges: Edges, nodes: Vec<Node>) -> Result<Vec<Node>, Memory>
     requires within { AllWithin nodes.items }
-    requires copied { nodes.items ≡ graph.now.nodes }
+    requires edges { edges ≡ edges_of nodes.items }
     ensures { IfOk result (λ reduced. AreReduced nodes.items reduced.items) }
 {
-    let edges = Edges::of(alloc, graph)?;
     let reduced = reduce_all(alloc, &edges, nodes)?;
     Ok(reduced)
 }
@@ -100,8 +169,22 @@ fn is_jump(node: &Node) -> bool
     }
 }
 
+/// A copy of a graph.
+fn copied(alloc: Global, graph: &Graph) -> Result<Graph, Memory>
+    ensures { IfOk result (λ copy. copy ≡ graph.now) }
+{
+    let nodes = copied_nodes(alloc, graph.nodes())?;
+    let name = graph.name().clone()?;
+    let extra = Vec::new(alloc);
+    let vars = graph.shared_names().with(alloc, extra)?;
+    let received = Vec::from_slice(alloc, graph.received())?;
+    let shared = graph.shared();
+    let received = Items::of(received);
+    Ok(Graph::of_parts(alloc, name, shared, vars, received, nodes))
+}
+
 /// A copy of the nodes.
-fn copied(alloc: Global, nodes: &[Node]) -> Result<Vec<Node>, Memory>
+fn copied_nodes(alloc: Global, nodes: &[Node]) -> Result<Vec<Node>, Memory>
     ensures { IfOk result (λ copied. copied.items ≡ nodes.now) }
 {
     let mut copied = Vec::with_capacity(alloc, nodes.len())?;

@@ -11,4 +11,4 @@ mod cleaning;
 mod reducing;
 
 pub use chains::ends;
-pub use cleaning::clean;
+pub use cleaning::{clean, into_clean};

@@ -20,7 +20,7 @@ use edge_split::split;
 use extend_flow::extensions;
 use flow_graph::Graph;
 use mir_base::{Memory, Unit as MirUnit};
-use program_pass::laid_out;
+use program_pass::{into_laid_out, laid_out};
 use sink_rounds::last_of_rounds;
 use std::alloc::Global;
 use term_flow::terms;
@@ -99,7 +99,7 @@ impl GraphPass for Sinking {
     fn unit_of(alloc: Global, graph: &Graph) -> Result<MirUnit, Memory> {
         let split = split(alloc, graph)?;
         let last = last_of_rounds(alloc, split)?;
-        let unit = laid_out(alloc, &last)?;
+        let unit = into_laid_out(alloc, last)?;
         Ok(unit)
     }
 }

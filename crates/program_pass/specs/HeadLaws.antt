@@ -5,7 +5,7 @@ use Rattle.std.proofs.lemmas.List.{length-map}
 use Rattle.mir_base.specs.Shapes.{ProgramShape, UnitShape, receives_in}
 use Rattle.flow_graph.specs.ListLaws.{cons_same}
 use Rattle.flow_graph.specs.Retained.{marked}
-use Rattle.program_pass.specs.PassPrograms.{KeepsHeads, UnitHead, head_of, heads_of}
+use Rattle.program_pass.specs.PassPrograms.{KeepsHeads, head_of, heads_of}
 
 -- ---- marks
 

@@ -1,11 +1,9 @@
 -- Laws: what is made of each unit of a program whose units go through a pass. For proofs only.
-use Rattle.std.proofs.Common.{◌≡◌, ℕ, ◌+◌, ◌≤◌, inl, inr, List, [], ◌∷◌, ◌++◌, length, slice_get, Option, Some, None, refl, sym, ap, ◌∙◌, subst}
+use Rattle.std.proofs.Common.{◌≡◌, ℕ, ◌+◌, inl, inr, List, [], ◌∷◌, ◌++◌, length, slice_get, Some, sym, ap, ◌∙◌, subst}
 use Rattle.std.proofs.lemmas.List.{length_push}
 use Rattle.mir_base.specs.Shapes.{ProgramShape, UnitShape}
-use Rattle.flow_graph.specs.Calls.{NodesCall}
 use Rattle.flow_graph.specs.Graphs.{GraphShape}
 use Rattle.flow_graph.specs.ListLaws.{get_push}
-use Rattle.program_pass.specs.RefitLaws.{called_fits}
 use Rattle.program_pass.specs.PassPrograms.{AllPassed, CleanedLaid, EachUnit, LoweredClean, IsPassedProgram, IsPassedUnit, PassKeeps, PassRelation, PassedAt, UnitPassed}
 
 module _ (Exact Between : PassRelation) where

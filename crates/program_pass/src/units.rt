@@ -5,7 +5,7 @@ ghost use Rattle.program_pass.specs.Fronts.{AreFronts};
 ghost use Rattle.program_pass.specs.PassPrograms.{CleanedLaid, LoweredClean};
 
 use flow_graph::{Graph, layout, lower};
-use jump_clean::clean;
+use jump_clean::{clean, into_clean};
 use mir_base::{Memory, Program, Unit as MirUnit};
 use std::alloc::Global;
 
@@ -50,5 +50,15 @@ pub fn laid_out(alloc: Global, graph: &Graph) -> Result<MirUnit, Memory>
     let swept = clean(alloc, graph)?;
     let unit = layout(alloc, &swept)?;
     let _nodes = graph.nodes();
+    Ok(unit)
+}
+
+/// The same of a graph that is let go, so that its nodes do not stand in memory twice. It fails only with `Memory`.
+pub fn into_laid_out(alloc: Global, graph: Graph) -> Result<MirUnit, Memory>
+    ensures { IfOk result (CleanedLaid graph) }
+{
+    let _nodes = graph.nodes();
+    let swept = into_clean(alloc, graph)?;
+    let unit = layout(alloc, &swept)?;
     Ok(unit)
 }

@@ -28,7 +28,8 @@ use Rattle.sink_best.specs.Chains.{chain_before, down, down_at, listed_put, one_
 use Rattle.sink_best.specs.OneSinking.{in_it, is_removed, kept_alike, new_graph, one_sinking, same_firm}
 use Rattle.sink_best.specs.OneLift.{lifted, sunk_over}
 use Rattle.sink_best.specs.OneRemoval.{path_stays, pruned_at, pruned_graph, removed_firm}
-use Rattle.sink_best.specs.Bodies.{Walked, one_body, one_walk, stop_of, walk_to}
+use Rattle.sink_rounds.specs.BodyWalks.{one_walk}
+use Rattle.sink_best.specs.Bodies.{Walked, moves, one_body, stop_of, walk_to}
 use Rattle.sink_best.specs.Ways.{ways_on}
 
 -- ---- a round and its parts
@@ -260,7 +261,7 @@ module _ (graph : GraphShape) (is_graph : IsGraph graph.vars graph.received grap
           let walk' = walk_to graph.shared graph.vars graph.received after after_graph one.unit.vars one.unit.body laid_after x t f (chain_before way graph.nodes f ++ lift x t before) stayed.stayed differ
           (stop_of (slice_get after f) (after_firm f ∙ is) (λ s e. differ (after_graph.can.only f s e))) in
           let ways : ways_on after f (chain_before way graph.nodes f ++ lift x t before) stayed.stayed [] ≡ ways_on graph.nodes f before trace [] = stayed.ways [] ∙ up.ways [] in
-          one_walk x t (plain_body graph.received after laid_after.plan) (length graph.received) (ways_on graph.nodes f before trace []) (sum_on (mine x t) before) (sum_on (theirs x t) (chain_before way graph.nodes f ++ lift x t before))
+          one_walk moves x t (plain_body graph.received after laid_after.plan) (length graph.received) (ways_on graph.nodes f before trace []) (sum_on (mine x t) before) (sum_on (theirs x t) (chain_before way graph.nodes f ++ lift x t before))
           (subst (λ b. Walked x t b (length graph.received) (ways_on graph.nodes f before trace []) (sum_on (mine x t) before)) bodies walk)
           (subst (λ l. Walked x t (plain_body graph.received after laid_after.plan) (length graph.received) l (sum_on (theirs x t) (chain_before way graph.nodes f ++ lift x t before))) ways walk')
 

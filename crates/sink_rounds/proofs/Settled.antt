@@ -27,7 +27,8 @@ use Rattle.dead_code.specs.PrunedLaws.{pruned_get}
 use Rattle.sink_rounds.proofs.Chains.{chain_sum, ones, over_sum}
 use Rattle.sink_rounds.specs.Names.{same_bodies}
 use Rattle.sink_rounds.specs.Unpruned.{same_succs}
-use Rattle.sink_rounds.proofs.Walks.{Near, Walk, at_end, begins, one_walk, onward, with_way}
+use Rattle.sink_rounds.specs.BodyWalks.{Near, begins, one_walk}
+use Rattle.sink_rounds.proofs.Walks.{Walked, at_end, moves, onward, with_way}
 
 -- the ways that a path takes at its tests
 abbrev ways_of : (nodes : List Node) (path : List ℕ) → IsPath nodes path → List ℕ
@@ -89,24 +90,24 @@ module _ (graph : GraphShape) (is_graph : IsGraph graph.vars graph.received grap
     body = plain_body graph.received graph.nodes laid.plan
 
     abbrev near : ℕ → ℕ → Type 0
-    near n q = Near x t graph.received graph.nodes first laid.plan laid.is_plan.is_plan laid.is_plan.complete n q
+    near n q = Near graph.received graph.nodes first laid.plan laid.is_plan.is_plan laid.is_plan.complete n q
 
     abbrev mine : ℕ → ℕ
     mine n = one_if (is_occurrence x t (slice_get graph.nodes n))
 
     -- a path to a Return is a walk of the body by the ways of the path
-    walked : (path : List ℕ) (n last q : ℕ) (is : IsPath graph.nodes (n ∷ path)) → Ends last (n ∷ path) → IsReturnAt graph.nodes last → near n q → Walk x t body q (ways_of graph.nodes (n ∷ path) is) (sum_on mine (n ∷ path))
+    walked : (path : List ℕ) (n last q : ℕ) (is : IsPath graph.nodes (n ∷ path)) → Ends last (n ∷ path) → IsReturnAt graph.nodes last → near n q → Walked x t body q (ways_of graph.nodes (n ∷ path) is) (sum_on mine (n ∷ path))
     walked [] n last q is ends returns at =
         let here : IsReturnAt graph.nodes n = subst (IsReturnAt graph.nodes) (sym ends) returns in
         let none = return_none x t (slice_get graph.nodes n) here in
-        subst (Walk x t body q []) (let e : 0 ≡ sum_on mine (n ∷ []) = omega (arith, none) in e) (at_end x t graph.received graph.nodes first laid.plan laid.is_plan.is_plan laid.is_plan.complete n q at here)
+        subst (Walked x t body q []) (let e : 0 ≡ sum_on mine (n ∷ []) = omega (arith, none) in e) (at_end x t graph.received graph.nodes first laid.plan laid.is_plan.is_plan laid.is_plan.complete n q at here)
     walked (m ∷ path) n last q is ends returns at =
         let on = onward x t graph.received graph.nodes first laid.plan laid.is_plan.is_plan laid.is_plan.complete n m is.0.0 q at is.0.1 in
         on.walks (ways_of graph.nodes (m ∷ path) is.1) (sum_on mine (m ∷ path)) (walked path m last on.to is.1 ends returns on.near)
 
     -- so is the path from the first node on
-    first_walked : (path : List ℕ) (last : ℕ) (is : IsPath graph.nodes (first ∷ path)) → Ends last (first ∷ path) → IsReturnAt graph.nodes last → Walk x t body (length graph.received) (ways_of graph.nodes (first ∷ path) is) (sum_on mine (first ∷ path))
-    first_walked path last is ends returns = walked path first last (length graph.received) is ends returns (begins x t graph.received graph.nodes first laid.plan laid.is_plan.is_plan laid.is_plan.complete)
+    first_walked : (path : List ℕ) (last : ℕ) (is : IsPath graph.nodes (first ∷ path)) → Ends last (first ∷ path) → IsReturnAt graph.nodes last → Walked x t body (length graph.received) (ways_of graph.nodes (first ∷ path) is) (sum_on mine (first ∷ path))
+    first_walked path last is ends returns = walked path first last (length graph.received) is ends returns (begins graph.received graph.nodes first laid.plan laid.is_plan.is_plan laid.is_plan.complete)
 
   -- ---- the path over it
 
@@ -127,7 +128,7 @@ module _ (graph : GraphShape) (is_graph : IsGraph graph.vars graph.received grap
     body' = plain_body graph.received after laid.plan
 
     abbrev near' : ℕ → ℕ → Type 0
-    near' n q = Near x t graph.received after first' laid.plan laid.is_plan.is_plan laid.is_plan.complete n q
+    near' n q = Near graph.received after first' laid.plan laid.is_plan.is_plan laid.is_plan.complete n q
 
     abbrev theirs : ℕ → ℕ
     theirs = ones graph r x t sinkable dead
@@ -140,11 +141,11 @@ module _ (graph : GraphShape) (is_graph : IsGraph graph.vars graph.received grap
     record PastChain (n k q : ℕ) (puts : List Insertion) : Type 0 where
       at : ℕ
       near : near' n at
-      walks : (ways : List ℕ) (count : ℕ) → Walk x t body' at ways count → Walk x t body' q ways (chain_sum theirs k puts + count)
+      walks : (ways : List ℕ) (count : ℕ) → Walked x t body' at ways count → Walked x t body' q ways (chain_sum theirs k puts + count)
 
     -- each of its assignments emits one instruction or none, and takes no way
     past_chain : (n k q : ℕ) (puts : List Insertion) → IsInsertionChain raw n k puts → near' (entry_among n k puts) q → PastChain n k q puts
-    past_chain n k q [] c at = record { at = q; near = at; walks = λ ways count walk. subst (Walk x t body' q ways) (let e : count ≡ 0 + count = omega arith in e) walk }
+    past_chain n k q [] c at = record { at = q; near = at; walks = λ ways count walk. subst (Walked x t body' q ways) (let e : count ≡ 0 + count = omega arith in e) walk }
     past_chain n k q (put ∷ puts) c at =
         let next = entry_among n (suc k) puts in
         let edge : IsEdge after k 0 next = ap (λ l. slice_get l 0) (same_succs dead raw k) ∙ ap (λ (o : Option Node). slice_get (succs_of o) 0) c.0 in
@@ -155,20 +156,20 @@ module _ (graph : GraphShape) (is_graph : IsGraph graph.vars graph.received grap
           at = rest.at;
           near = rest.near;
           walks = λ ways count walk.
-              subst (Walk x t body' q ways) (let e : theirs k + (chain_sum theirs (suc k) puts + count) ≡ chain_sum theirs k (put ∷ puts) + count = omega arith in e)
-              (subst (λ l. Walk x t body' q l (theirs k + (chain_sum theirs (suc k) puts + count))) (ap (λ o. with_way o 0 ways) is ∙ chain_way (dead (0 + k)) put.var put.rhs next 0 ways)
+              subst (Walked x t body' q ways) (let e : theirs k + (chain_sum theirs (suc k) puts + count) ≡ chain_sum theirs k (put ∷ puts) + count = omega arith in e)
+              (subst (λ l. Walked x t body' q l (theirs k + (chain_sum theirs (suc k) puts + count))) (ap (λ o. with_way o 0 ways) is ∙ chain_way (dead (0 + k)) put.var put.rhs next 0 ways)
               (on.walks ways (chain_sum theirs (suc k) puts + count) (rest.walks ways count walk)));
         }
 
     -- so the path over a path is a walk by the same ways
-    walked' : (path : List ℕ) (n last q : ℕ) (is : IsPath graph.nodes (n ∷ path)) → Ends last (n ∷ path) → IsReturnAt graph.nodes last → near' (to n) q → Walk x t body' q (ways_of graph.nodes (n ∷ path) is) (sum_on theirs (over_path r.inserts (length graph.nodes) (n ∷ path)))
+    walked' : (path : List ℕ) (n last q : ℕ) (is : IsPath graph.nodes (n ∷ path)) → Ends last (n ∷ path) → IsReturnAt graph.nodes last → near' (to n) q → Walked x t body' q (ways_of graph.nodes (n ∷ path) is) (sum_on theirs (over_path r.inserts (length graph.nodes) (n ∷ path)))
     walked' [] n last q is ends returns at =
         let p = past_chain n (length graph.nodes + put_below r.inserts n) q (r.inserts n) (chain_is r graph.nodes n is) at in
         let node = some_at graph.nodes n is in
         let here : is_return (Some node.0) ≡ true = sym (ap is_return node.1) ∙ subst (IsReturnAt graph.nodes) (sym ends) returns in
         let there : IsReturnAt after n = ap is_return (old_is n node.0 node.1) ∙ return_stays (dead (0 + n)) to (r.changes n) node.0 here in
         let none = return_none x t (slice_get after n) there in
-        subst (Walk x t body' q []) (let e : chain_sum theirs (length graph.nodes + put_below r.inserts n) (r.inserts n) + 0 ≡ sum_on theirs (over_path r.inserts (length graph.nodes) (n ∷ [])) = omega (arith, none, over_sum theirs r.inserts (length graph.nodes) n []) in e)
+        subst (Walked x t body' q []) (let e : chain_sum theirs (length graph.nodes + put_below r.inserts n) (r.inserts n) + 0 ≡ sum_on theirs (over_path r.inserts (length graph.nodes) (n ∷ [])) = omega (arith, none, over_sum theirs r.inserts (length graph.nodes) n []) in e)
         (p.walks [] 0 (at_end x t graph.received after first' laid.plan laid.is_plan.is_plan laid.is_plan.complete n p.at p.near there))
     walked' (m ∷ path) n last q is ends returns at =
         let lt = edge_within graph.nodes n m is.0 in
@@ -180,8 +181,8 @@ module _ (graph : GraphShape) (is_graph : IsGraph graph.vars graph.received grap
         let ways = ways_of graph.nodes (m ∷ path) is.1 in
         let more = sum_on theirs (over_path r.inserts (length graph.nodes) (m ∷ path)) in
         let way : with_way (slice_get after n) is.0.0 ways ≡ with_way (slice_get graph.nodes n) is.0.0 ways = ap (λ o. with_way o is.0.0 ways) (old_is n node.0 node.1) ∙ way_stays (dead (0 + n)) to (r.changes n) node.0 is.0.0 ways ∙ ap (λ o. with_way o is.0.0 ways) (sym node.1) in
-        subst (Walk x t body' q (with_way (slice_get graph.nodes n) is.0.0 ways)) (let e : chain_sum theirs (length graph.nodes + put_below r.inserts n) (r.inserts n) + (theirs n + more) ≡ sum_on theirs (over_path r.inserts (length graph.nodes) (n ∷ m ∷ path)) = sym (over_sum theirs r.inserts (length graph.nodes) n (m ∷ path)) in e)
-        (p.walks (with_way (slice_get graph.nodes n) is.0.0 ways) (theirs n + more) (subst (λ l. Walk x t body' p.at l (theirs n + more)) way (on.walks ways more rest)))
+        subst (Walked x t body' q (with_way (slice_get graph.nodes n) is.0.0 ways)) (let e : chain_sum theirs (length graph.nodes + put_below r.inserts n) (r.inserts n) + (theirs n + more) ≡ sum_on theirs (over_path r.inserts (length graph.nodes) (n ∷ m ∷ path)) = sym (over_sum theirs r.inserts (length graph.nodes) n (m ∷ path)) in e)
+        (p.walks (with_way (slice_get graph.nodes n) is.0.0 ways) (theirs n + more) (subst (λ l. Walked x t body' p.at l (theirs n + more)) way (on.walks ways more rest)))
 
     -- Start stays, with another successor
     start_is : slice_get after 0 ≡ Some (Start (to is_graph.can.start.0))
@@ -189,9 +190,9 @@ module _ (graph : GraphShape) (is_graph : IsGraph graph.vars graph.received grap
 
     -- and so is the path over it from the first node on
     first_walked' : (path : List ℕ) (n last : ℕ) → n ≡ is_graph.can.start.0 → (is : IsPath graph.nodes (n ∷ path)) → Ends last (n ∷ path) → IsReturnAt graph.nodes last
-        → Walk x t body' (length graph.received) (ways_of graph.nodes (n ∷ path) is) (sum_on theirs (over_path r.inserts (length graph.nodes) (n ∷ path)))
+        → Walked x t body' (length graph.received) (ways_of graph.nodes (n ∷ path) is) (sum_on theirs (over_path r.inserts (length graph.nodes) (n ∷ path)))
     first_walked' path n last first_is is ends returns =
-        walked' path n last (length graph.received) is ends returns (subst (λ m. near' m (length graph.received)) (ap start_succ start_is ∙ ap to (sym first_is)) (begins x t graph.received after first' laid.plan laid.is_plan.is_plan laid.is_plan.complete))
+        walked' path n last (length graph.received) is ends returns (subst (λ m. near' m (length graph.received)) (ap start_succ start_is ∙ ap to (sym first_is)) (begins graph.received after first' laid.plan laid.is_plan.is_plan laid.is_plan.complete))
 
     -- ---- both
 
@@ -211,10 +212,10 @@ module _ (graph : GraphShape) (is_graph : IsGraph graph.vars graph.received grap
           let starts : slice_get graph.nodes n ≡ Some (Start is_graph.can.start.0) = ap (slice_get graph.nodes) begins_0 ∙ is_graph.can.start.1 in
           let first_is : is_graph.can.start.0 ≡ m = one_item is_graph.can.start.0 m full.is_path.0.0 (sym (ap (λ (o : Option Node). slice_get (succs_of o) full.is_path.0.0) starts) ∙ full.is_path.0.1) in
           let mine_walk = walked names final laid0 path m full.last (length graph.received) full.is_path.1 full.ends full.returns
-          (subst (λ k. Near x t graph.received graph.nodes (start_succ (slice_get graph.nodes 0)) laid0.plan laid0.is_plan.is_plan laid0.is_plan.complete k (length graph.received)) (ap start_succ is_graph.can.start.1 ∙ first_is) (begins x t graph.received graph.nodes (start_succ (slice_get graph.nodes 0)) laid0.plan laid0.is_plan.is_plan laid0.is_plan.complete)) in
+          (subst (λ k. Near graph.received graph.nodes (start_succ (slice_get graph.nodes 0)) laid0.plan laid0.is_plan.is_plan laid0.is_plan.complete k (length graph.received)) (ap start_succ is_graph.can.start.1 ∙ first_is) (begins graph.received graph.nodes (start_succ (slice_get graph.nodes 0)) laid0.plan laid0.is_plan.is_plan laid0.is_plan.complete)) in
           let their_walk = first_walked' path m full.last (sym first_is) full.is_path.1 full.ends full.returns in
-          let same = one_walk x t body' (length graph.received) (ways_of graph.nodes (m ∷ path) full.is_path.1) (sum_on (λ k. one_if (is_occurrence x t (slice_get graph.nodes k))) (m ∷ path)) (sum_on theirs (over_path r.inserts (length graph.nodes) (m ∷ path)))
-          (subst (λ b. Walk x t b (length graph.received) (ways_of graph.nodes (m ∷ path) full.is_path.1) (sum_on (λ k. one_if (is_occurrence x t (slice_get graph.nodes k))) (m ∷ path))) bodies mine_walk) their_walk in
+          let same = one_walk moves x t body' (length graph.received) (ways_of graph.nodes (m ∷ path) full.is_path.1) (sum_on (λ k. one_if (is_occurrence x t (slice_get graph.nodes k))) (m ∷ path)) (sum_on theirs (over_path r.inserts (length graph.nodes) (m ∷ path)))
+          (subst (λ b. Walked x t b (length graph.received) (ways_of graph.nodes (m ∷ path) full.is_path.1) (sum_on (λ k. one_if (is_occurrence x t (slice_get graph.nodes k))) (m ∷ path))) bodies mine_walk) their_walk in
           let my_start = ap {B = ℕ} (λ o. one_if (is_occurrence x t o)) starts in
           let their_start : theirs n ≡ 0 = ap (λ k. one_if (is_occurrence x t (slice_get after k))) begins_0 ∙ ap (λ o. one_if (is_occurrence x t o)) start_is in
           let no_chain : chain_sum theirs (length graph.nodes + put_below r.inserts n) (r.inserts n) ≡ 0 = ap (λ k. chain_sum theirs (length graph.nodes + put_below r.inserts k) (r.inserts k)) begins_0 ∙ ap (chain_sum theirs (length graph.nodes + 0)) at_start in

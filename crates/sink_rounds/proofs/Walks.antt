@@ -1,24 +1,24 @@
 -- The body that a plan emits, walked as a path of the graph goes: what stands on the path stands on the walk, and a walk
 -- is determined by the ways that it takes at its tests.
-use Rattle.std.proofs.Common.{◌≡◌, ◌⊎◌, ◌+◌, ℕ, zero, suc, Bool, true, false, not, ◌&&◌, cond, nat_eq, List, [], ◌∷◌, length, drop, slice_get, Option, Some, None, inl, inr, refl, sym, ap, ◌∙◌, subst, arith}
+use Rattle.std.proofs.Common.{◌≡◌, ◌+◌, ℕ, zero, suc, true, List, [], ◌∷◌, length, slice_get, Option, Some, None, inl, refl, sym, ap, ◌∙◌, subst}
 use Rattle.std.proofs.lemmas.Bool.{false≢true}
-use Rattle.std.proofs.lemmas.Option.{none-some, same_Some}
-use Rattle.mir_base.specs.Expressions.{divides}
+use Rattle.std.proofs.lemmas.Option.{none-some}
 use Rattle.mir_base.specs.ItemLaws.{one_item}
 use Rattle.mir_base.specs.declared.instructions.Rhs.{Rhs}
 use Rattle.mir_base.specs.declared.instructions.Inst.{Inst}
 use Rattle.mir_base.specs.declared.instructions.Inst.TheVariants as insts
 use Rattle.flow_graph.specs.declared.plan.Item.{Item}
-use Rattle.flow_graph.specs.declared.plan.Item.TheVariants.{Placed, Jump}
+use Rattle.flow_graph.specs.declared.plan.Item.TheVariants.{Placed}
 use Rattle.flow_graph.specs.declared.nodes.Node.{Node}
 use Rattle.flow_graph.specs.declared.nodes.Node.TheVariants.{Start, Skip, Assign, Print, Guard, Call, Test, Return}
-use Rattle.flow_graph.specs.Graphs.{IsEdge, following, succs_of}
-use Rattle.flow_graph.specs.Layouts.{emitted_by, item_size, place_in, plain_body, size}
+use Rattle.flow_graph.specs.Graphs.{IsEdge, succs_of}
+use Rattle.flow_graph.specs.Layouts.{emitted_by, place_in, plain_body, size}
 use Rattle.flow_graph.specs.Paths.{IsReturnAt, is_return}
-use Rattle.flow_graph.specs.Plans.{IsPlan, after_node, is_placed, next_item}
+use Rattle.flow_graph.specs.Plans.{IsPlan, next_item}
 use Rattle.flow_graph.specs.Sums.{one_if}
-use Rattle.flow_graph.specs.PlanLaws.{Next, bottom, is_placed_drop, item_inst_at, last, next_of, place_at, placed_at, taken_placed, then_}
-use Rattle.graph_edit.specs.Accesses.{is_occurrence, same_rhs}
+use Rattle.flow_graph.specs.PlanLaws.{item_inst_at, place_at, placed_at, taken_placed}
+use Rattle.graph_edit.specs.Accesses.{is_occurrence}
+use Rattle.sink_rounds.specs.BodyWalks.{Near, Onward, Walk, ends, from_near, goes, past_none, past_one}
 
 -- ---- walks
 
@@ -35,38 +35,13 @@ moves (insts.Print a) q ways = Some (q + 1, ways)
 moves (insts.TrapIf test number) q ways = Some (q + 1, ways)
 moves (insts.Return a) q ways = None
 
--- 1 where the instruction is x <- t
-abbrev pub inst_ones : ℕ → Rhs → Inst → ℕ
-inst_ones x t (insts.Receive y) = 0
-inst_ones x t (insts.Assign y rhs) = one_if (nat_eq x y && same_rhs t rhs && not (divides t))
-inst_ones x t (insts.Goto p) = 0
-inst_ones x t (insts.If test p) = 0
-inst_ones x t (insts.Call into unit operands) = 0
-inst_ones x t (insts.Print a) = 0
-inst_ones x t (insts.TrapIf test number) = 0
-inst_ones x t (insts.Return a) = 0
+-- a jump leads to its place
+pub jumps : (p q : ℕ) (ways : List ℕ) → moves (insts.Goto p) q ways ≡ Some (p, ways)
+jumps p q ways = refl
 
 -- from place q the body is walked these ways to its end, past so many x <- t
-pub data Walk (x : ℕ) (t : Rhs) (body : List Inst) : ℕ → List ℕ → ℕ → Type 0 where
-  ends : (q : ℕ) (ways : List ℕ) (inst : Inst) → slice_get body q ≡ Some inst → moves inst q ways ≡ None → Walk x t body q ways 0
-  goes : (q : ℕ) (ways : List ℕ) (inst : Inst) (p : ℕ) (ways' : List ℕ) (count count' : ℕ) → slice_get body q ≡ Some inst → moves inst q ways ≡ Some (p, ways') → Walk x t body p ways' count → count' ≡ inst_ones x t inst + count → Walk x t body q ways count'
-
--- a walk passes as many as any other with these ways
-pub one_walk : (x : ℕ) (t : Rhs) (body : List Inst) (q : ℕ) (ways : List ℕ) (a b : ℕ) → Walk x t body q ways a → Walk x t body q ways b → a ≡ b
-one_walk x t body q ways a b (ends q0 w0 inst is none) (ends q1 w1 inst' is' none') = refl
-one_walk x t body q ways a b (ends q0 w0 inst is none) (goes q1 w1 inst' p ways' count count' is' some walk e) =
-    let same : inst ≡ inst' = same_Some inst inst' (sym is ∙ is') in
-    absurd (none-some {A = ℕ × List ℕ} (p, ways') (sym none ∙ ap (λ i. moves i q ways) same ∙ some))
-one_walk x t body q ways a b (goes q1 w1 inst' p ways' count count' is' some walk e) (ends q0 w0 inst is none) =
-    let same : inst ≡ inst' = same_Some inst inst' (sym is ∙ is') in
-    absurd (none-some {A = ℕ × List ℕ} (p, ways') (sym none ∙ ap (λ i. moves i q ways) same ∙ some))
-one_walk x t body q ways a b (goes q0 w0 inst p ways' count count0 is some walk e) (goes q1 w1 inst' p' ways'' count' count1 is' some' walk' e') =
-    let same : inst ≡ inst' = same_Some inst inst' (sym is ∙ is') in
-    let both : (p, ways') ≡ (p', ways'') = same_Some {A = ℕ × List ℕ} (p, ways') (p', ways'') (sym some ∙ ap (λ i. moves i q ways) same ∙ some') in
-    let place : p ≡ p' = ap (λ (w : ℕ × List ℕ). w.0) both in
-    let left : ways' ≡ ways'' = ap (λ (w : ℕ × List ℕ). w.1) both in
-    let rest = one_walk x t body p ways' count count' walk (subst (λ l. Walk x t body p l count') (sym left) (subst (λ k. Walk x t body k ways'' count') (sym place) walk')) in
-    e ∙ ap (λ i. inst_ones x t i + count) same ∙ ap (λ k. inst_ones x t inst' + k) rest ∙ sym e'
+abbrev pub Walked : ℕ → Rhs → List Inst → ℕ → List ℕ → ℕ → Type 0
+Walked = Walk moves
 
 -- the way that is taken at a node, before these
 abbrev pub with_way : Option Node → ℕ → List ℕ → List ℕ
@@ -85,86 +60,21 @@ module _ (x : ℕ) (t : Rhs) (received : List ℕ) (nodes : List Node) (first : 
   abbrev body : List Inst
   body = plain_body received nodes plan
 
-  -- place q is that of node n, or has a jump to it
-  pub record Near (n q : ℕ) : Type 0 where
-    pub z : ℕ
-    pub older : List Item
-    pub here : drop z plan ≡ Placed n ∷ older
-    pub near : (q ≡ size nodes r older) ⊎ (slice_get body q ≡ Some (insts.Goto (size nodes r older)))
-
-  -- a walk from the node's own place is one from a place near it
-  from_near : (n q : ℕ) (near : Near n q) (ways : List ℕ) (count : ℕ) → Walk x t body (size nodes r near.older) ways count → Walk x t body q ways count
-  from_near n q near ways count walk = elim near.near [
-    | inl at ↦ subst (λ k. Walk x t body k ways count) (sym at) walk
-    | inr jump ↦ goes q ways (insts.Goto (size nodes r near.older)) (size nodes r near.older) ways count count jump refl walk (omega arith)
-  ]
-
-  -- by whether the node that follows is placed already, so that a jump leads to it, or comes next
-  arrives_by : (z n s : ℕ) (older : List Item) (b : Bool) → is_placed s (Placed n ∷ older) ≡ b → drop z plan ≡ Placed n ∷ older → next_item nodes first (Placed n ∷ older) ≡ Some (cond b (Jump s) (Placed s)) → Next nodes first plan (Placed n ∷ older) z
-      → Near s (size nodes r (Placed n ∷ older))
-  arrives_by z n s older b is here next (last none) = cc
-  arrives_by z n s older true is here next (then_ j item e next') =
-      let same : item ≡ Jump s = cc in
-      let before : is_placed s plan ≡ true = is_placed_drop nodes first z s plan (subst (λ l. is_placed s l ≡ true) (sym here) is) in
-      let there = placed_at nodes first s plan before in
-      let inst = item_inst_at nodes first received place plan j (Jump s) (Placed n ∷ older) (insts.Goto (place s)) (e ∙ ap (λ i. i ∷ Placed n ∷ older) same) refl in
-      let to = place_at nodes first r there.0 s plan there.1 is_plan there.2 in
-      record { z = there.0; older = there.1; here = there.2; near = inr (inst ∙ ap (λ p. Some (insts.Goto p)) to) }
-  arrives_by z n s older false is here next (then_ j item e next') =
-      let same : item ≡ Placed s = cc in
-      record { z = j; older = Placed n ∷ older; here = e ∙ ap (λ i. i ∷ Placed n ∷ older) same; near = inl refl }
-
-  -- after a placed node comes the one that follows, or a jump to it
-  arrives : (z n s : ℕ) (older : List Item) → drop z plan ≡ Placed n ∷ older → following (slice_get nodes n) ≡ Some s → Near s (size nodes r (Placed n ∷ older))
-  arrives z n s older here follows = arrives_by z n s older (is_placed s (Placed n ∷ older)) refl here (ap (after_node nodes (Placed n ∷ older)) follows) (next_of nodes first z plan (Placed n) older is_plan done here)
-
-  -- along an edge: from a place near the one node to a place near the other
-  pub record Onward (n s slot q : ℕ) : Type 0 where
-    pub to : ℕ
-    pub near : Near s to
-    pub walks : (ways : List ℕ) (count : ℕ) → Walk x t body to ways count → Walk x t body q (with_way (slice_get nodes n) slot ways) (one_if (is_occurrence x t (slice_get nodes n)) + count)
-
-  -- past a node that emits nothing
-  past_none : (n s slot q : ℕ) (near : Near n q) (o : Option Node) → slice_get nodes n ≡ o → length (emitted_by (λ m. m) o) ≡ 0 → following o ≡ Some s → one_if (is_occurrence x t o) ≡ 0 → ((ways : List ℕ) → with_way o slot ways ≡ ways) → Onward n s slot q
-  past_none n s slot q near o is none follows ones same = record {
-    to = size nodes r near.older;
-    near = subst (Near s) (let nothing : item_size nodes (Placed n) ≡ 0 = ap (λ o'. length (emitted_by (λ m. m) o')) is ∙ none in let e : size nodes r (Placed n ∷ near.older) ≡ size nodes r near.older = omega (arith, nothing) in e)
-        (arrives near.z n s near.older near.here (ap following is ∙ follows));
-    walks = λ ways count walk. subst (λ o'. Walk x t body q (with_way o' slot ways) (one_if (is_occurrence x t o') + count)) (sym is)
-        (subst (λ l. Walk x t body q l (one_if (is_occurrence x t o) + count)) (sym (same ways))
-        (subst (λ k. Walk x t body q ways k) (let e : count ≡ one_if (is_occurrence x t o) + count = omega (arith, ones) in e) (from_near n q near ways count walk)));
-  }
-
-  -- past a node that emits one instruction, to the place after it
-  past_one : (n s slot q : ℕ) (near : Near n q) (o : Option Node) (inst : Inst) → slice_get nodes n ≡ o → emitted_by place o ≡ inst ∷ [] → length (emitted_by (λ m. m) o) ≡ 1 → following o ≡ Some s
-      → ((k : ℕ) (ways : List ℕ) → moves inst k (with_way o slot ways) ≡ Some (k + 1, ways)) → inst_ones x t inst ≡ one_if (is_occurrence x t o) → Onward n s slot q
-  past_one n s slot q near o inst is emits one follows moved ones =
-      let k = size nodes r near.older in
-      let stands = item_inst_at nodes first received place plan near.z (Placed n) near.older inst near.here (ap (emitted_by place) is ∙ emits) in
-      record {
-        to = k + 1;
-        near = subst (Near s) (let whole : item_size nodes (Placed n) ≡ 1 = ap (λ o'. length (emitted_by (λ m. m) o')) is ∙ one in let e : size nodes r (Placed n ∷ near.older) ≡ size nodes r near.older + 1 = omega (arith, whole) in e)
-            (arrives near.z n s near.older near.here (ap following is ∙ follows));
-        walks = λ ways count walk. subst (λ o'. Walk x t body q (with_way o' slot ways) (one_if (is_occurrence x t o') + count)) (sym is)
-            (from_near n q near (with_way o slot ways) (one_if (is_occurrence x t o) + count)
-            (goes k (with_way o slot ways) inst (k + 1) ways count (one_if (is_occurrence x t o) + count) stands (moved k ways) walk (ap (λ m. m + count) (sym ones))));
-      }
-
   -- past each kind of node
-  pub onward : (n s slot q : ℕ) → Near n q → IsEdge nodes n slot s → Onward n s slot q
+  pub onward : (n s slot q : ℕ) → Near received nodes first plan is_plan done n q → IsEdge nodes n slot s → Onward moves jumps with_way x t received nodes first plan is_plan done n s slot q
   onward n s slot q near edge = by (slice_get nodes n) refl (edge)
     where
-      by : (o : Option Node) → slice_get nodes n ≡ o → slice_get (succs_of o) slot ≡ Some s → Onward n s slot q
+      by : (o : Option Node) → slice_get nodes n ≡ o → slice_get (succs_of o) slot ≡ Some s → Onward moves jumps with_way x t received nodes first plan is_plan done n s slot q
       by None is e = absurd (none-some s e)
-      by (Some (Start next)) is e = past_none n s slot q near (Some (Start next)) is refl (ap (λ (k : ℕ). Some k) (one_item next s slot e)) refl (λ ways. refl)
-      by (Some (Skip next)) is e = past_none n s slot q near (Some (Skip next)) is refl (ap (λ (k : ℕ). Some k) (one_item next s slot e)) refl (λ ways. refl)
-      by (Some (Assign y rhs next)) is e = past_one n s slot q near (Some (Assign y rhs next)) (insts.Assign y rhs) is refl refl (ap (λ (k : ℕ). Some k) (one_item next s slot e)) (λ k ways. refl) refl
-      by (Some (Print a next)) is e = past_one n s slot q near (Some (Print a next)) (insts.Print a) is refl refl (ap (λ (k : ℕ). Some k) (one_item next s slot e)) (λ k ways. refl) refl
-      by (Some (Guard test number next)) is e = past_one n s slot q near (Some (Guard test number next)) (insts.TrapIf test number) is refl refl (ap (λ (k : ℕ). Some k) (one_item next s slot e)) (λ k ways. refl) refl
-      by (Some (Call into unit operands next)) is e = past_one n s slot q near (Some (Call into unit operands next)) (insts.Call into unit operands) is refl refl (ap (λ (k : ℕ). Some k) (one_item next s slot e)) (λ k ways. refl) refl
+      by (Some (Start next)) is e = past_none moves jumps with_way x t received nodes first plan is_plan done n s slot q near (Some (Start next)) is refl (ap (λ (k : ℕ). Some k) (one_item next s slot e)) refl (λ ways. refl)
+      by (Some (Skip next)) is e = past_none moves jumps with_way x t received nodes first plan is_plan done n s slot q near (Some (Skip next)) is refl (ap (λ (k : ℕ). Some k) (one_item next s slot e)) refl (λ ways. refl)
+      by (Some (Assign y rhs next)) is e = past_one moves jumps with_way x t received nodes first plan is_plan done n s slot q near (Some (Assign y rhs next)) (insts.Assign y rhs) is refl refl (ap (λ (k : ℕ). Some k) (one_item next s slot e)) (λ k ways. refl) refl
+      by (Some (Print a next)) is e = past_one moves jumps with_way x t received nodes first plan is_plan done n s slot q near (Some (Print a next)) (insts.Print a) is refl refl (ap (λ (k : ℕ). Some k) (one_item next s slot e)) (λ k ways. refl) refl
+      by (Some (Guard test number next)) is e = past_one moves jumps with_way x t received nodes first plan is_plan done n s slot q near (Some (Guard test number next)) (insts.TrapIf test number) is refl refl (ap (λ (k : ℕ). Some k) (one_item next s slot e)) (λ k ways. refl) refl
+      by (Some (Call into unit operands next)) is e = past_one moves jumps with_way x t received nodes first plan is_plan done n s slot q near (Some (Call into unit operands next)) (insts.Call into unit operands) is refl refl (ap (λ (k : ℕ). Some k) (one_item next s slot e)) (λ k ways. refl) refl
       by (Some (Test test taken other)) is e = way slot e
         where
-          way : (slot : ℕ) → slice_get (taken ∷ other ∷ []) slot ≡ Some s → Onward n s slot q
+          way : (slot : ℕ) → slice_get (taken ∷ other ∷ []) slot ≡ Some s → Onward moves jumps with_way x t received nodes first plan is_plan done n s slot q
           way zero e =
               let there = placed_at nodes first taken plan (taken_placed nodes first plan near.z n near.older test taken other done near.here is) in
               let to = place_at nodes first r there.0 taken plan there.1 is_plan there.2 in
@@ -173,18 +83,18 @@ module _ (x : ℕ) (t : Rhs) (received : List ℕ) (nodes : List Node) (first : 
               record {
                 to = place taken;
                 near = record { z = there.0; older = there.1; here = there.2 ∙ ap (λ m. Placed m ∷ there.1) same; near = inl to };
-                walks = λ ways count walk. subst (λ o'. Walk x t body q (with_way o' 0 ways) (one_if (is_occurrence x t o') + count)) (sym is)
-                    (from_near n q near (0 ∷ ways) (0 + count) (goes (size nodes r near.older) (0 ∷ ways) (insts.If test (place taken)) (place taken) ways count (0 + count) stands refl walk refl));
+                walks = λ ways count walk. subst (λ o'. Walked x t body q (with_way o' 0 ways) (one_if (is_occurrence x t o') + count)) (sym is)
+                    (from_near moves jumps with_way x t received nodes first plan is_plan done n q near (0 ∷ ways) (0 + count) (goes (size nodes r near.older) (0 ∷ ways) (insts.If test (place taken)) (place taken) ways count (0 + count) stands refl walk refl));
               }
-          way (suc zero) e = past_one n s 1 q near (Some (Test test taken other)) (insts.If test (place taken)) is refl refl e (λ k ways. refl) refl
+          way (suc zero) e = past_one moves jumps with_way x t received nodes first plan is_plan done n s 1 q near (Some (Test test taken other)) (insts.If test (place taken)) is refl refl e (λ k ways. refl) refl
           way (suc (suc slot)) e = absurd (none-some s e)
       by (Some (Return a)) is e = absurd (none-some s e)
 
   -- at a Return the walk ends
-  pub at_end : (n q : ℕ) → Near n q → IsReturnAt nodes n → Walk x t body q [] 0
+  pub at_end : (n q : ℕ) → Near received nodes first plan is_plan done n q → IsReturnAt nodes n → Walked x t body q [] 0
   at_end n q near returns = by (slice_get nodes n) refl returns
     where
-      by : (o : Option Node) → slice_get nodes n ≡ o → is_return o ≡ true → Walk x t body q [] 0
+      by : (o : Option Node) → slice_get nodes n ≡ o → is_return o ≡ true → Walked x t body q [] 0
       by None is e = absurd (false≢true e)
       by (Some (Start next)) is e = absurd (false≢true e)
       by (Some (Skip next)) is e = absurd (false≢true e)
@@ -195,8 +105,4 @@ module _ (x : ℕ) (t : Rhs) (received : List ℕ) (nodes : List Node) (first : 
       by (Some (Test test taken other)) is e = absurd (false≢true e)
       by (Some (Return a)) is e =
           let stands = item_inst_at nodes first received place plan near.z (Placed n) near.older (insts.Return a) near.here (ap (emitted_by place) is) in
-          from_near n q near [] 0 (ends (size nodes r near.older) [] (insts.Return a) stands refl)
-
-  -- the first node stands after the receives
-  pub begins : Near first r
-  begins = (let b = bottom nodes first plan is_plan done in record { z = b.0; older = []; here = b.1; near = inl refl })
+          from_near moves jumps with_way x t received nodes first plan is_plan done n q near [] 0 (ends (size nodes r near.older) [] (insts.Return a) stands refl)

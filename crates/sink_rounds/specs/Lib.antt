@@ -9,3 +9,4 @@ pub mod Names
 pub mod Unpruned
 pub mod StepLaws
 pub mod Totals
+pub mod BodyWalks

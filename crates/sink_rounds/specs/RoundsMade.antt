@@ -3,7 +3,7 @@ use Rattle.flow_graph.specs.Graphs.{GraphShape}
 use Rattle.sink_rounds.specs.declared.repeating.MadeRound.{MadeRound}
 use Rattle.sink_rounds.specs.declared.repeating.PrunedRound.{PrunedRound}
 use Rattle.graph_edit.specs.GraphFlows.{IsFlowOf}
-use Rattle.sink_rounds.specs.Outlines.{IsOutlineOf}
+use Rattle.sink_rounds.specs.Outlines.{IsOutlineOf, MayBeFlow}
 use Rattle.sink_rounds.specs.RoundGraphs.{IsRound, SaysChanged}
 use Rattle.sink_code.specs.RoundKept.{RoundKeeps}
 use Rattle.sink_rounds.specs.Steps.{IsBestStep}
@@ -14,10 +14,10 @@ pub record IsPrunedRound (graph : GraphShape) (made : PrunedRound) : Type 0 wher
   pub flow : IsFlowOf made.graph.nodes made.flow
   pub keeps : RoundKeeps graph made.graph
 
--- it is one with what is known of its layout too, and says whether this is another
+-- it is one with what is known of its layout too, and says whether this is another; its edges and blocks may be gone
 pub record IsMadeRound (graph : GraphShape) (made : MadeRound) : Type 0 where
   pub round : IsRound graph made.graph
-  pub flow : IsFlowOf made.graph.nodes made.flow
+  pub flow : MayBeFlow made.graph.nodes made.flow
   pub outline : IsOutlineOf made.graph made.outline
   pub changed : SaysChanged graph made.graph made.changed
   pub keeps : RoundKeeps graph made.graph

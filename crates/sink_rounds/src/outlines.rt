@@ -1,11 +1,14 @@
 // Whether two graphs have one layout, where possible without making it.
 ghost use Rattle.std.specs.Prelude.{◌≡◌, count_by, IfOk};
 ghost use Rattle.flow_graph.specs.Layouts.{IsLayout};
+ghost use Rattle.graph_edit.specs.GraphFlows.{IsFlowOf};
 ghost use Rattle.sink_rounds.specs.Outlines.{IsCompared, IsOutlineOf, is_assign};
 
 use flow_graph::{Graph, Node, layout};
+use graph_edit::GraphFlow;
 use mir_base::{Memory, Unit as MirUnit};
 use std::alloc::Global;
+use std::mem;
 use unit_equal::same_unit;
 
 /// What is known of the layout of a graph.
@@ -71,34 +74,41 @@ fn is_assign(node: &Node) -> bool
     }
 }
 
-/// Whether two graphs have different layouts, and what is known of that of the second.
+/// Whether two graphs have different layouts, what is known of that of the second, and its edges and blocks, where they
+/// are still there.
 #[derive(Drop)]
 pub(crate) struct Compared {
     pub(crate) outline: Outline,
     pub(crate) changed: bool,
+    pub(crate) flow: Option<GraphFlow>,
 }
 
-/// Compares the layout of a graph, of which this is known, with that of another. Where these have not equally many
-/// assignments, neither layout is made. It fails only with `Memory`.
+/// Compares the layout of a graph, of which this is known, with that of another, of which these are the edges and the
+/// blocks. Where these have not equally many assignments, neither layout is made, and the edges and the blocks are
+/// handed on; else they are let go first. It fails only with `Memory`.
 pub(crate) fn compare(
     alloc: Global,
     graph: &Graph,
     known: Outline,
     other: &Graph,
+    flow: GraphFlow,
 ) -> Result<Compared, Memory>
-    requires { IsOutlineOf graph.now known }
+    requires known { IsOutlineOf graph.now known }
+    requires flow { IsFlowOf other.now.nodes flow }
     ensures { IfOk result (IsCompared graph.now other.now) }
 {
     let _olds = graph.nodes();
     let _news = other.nodes();
     let outline = Outline::of(other);
     if outline.assigns == known.assigns {
+        mem::drop(flow);
         let compared = laid_out(alloc, graph, known, other)?;
         Ok(compared)
     } else {
         Ok(Compared {
             outline,
             changed: true,
+            flow: Some(flow),
         })
     }
 }
@@ -118,5 +128,6 @@ fn laid_out(alloc: Global, graph: &Graph, known: Outline, other: &Graph) -> Resu
             unit: Some(laid),
         },
         changed,
+        flow: None,
     })
 }

@@ -2,7 +2,7 @@
 ghost use Rattle.std.specs.Prelude.{IfOk};
 ghost use Rattle.flow_graph.specs.Edges.{IsSplit};
 ghost use Rattle.graph_edit.specs.GraphFlows.{IsFlowOf};
-ghost use Rattle.sink_rounds.specs.Outlines.{IsOutlineOf};
+ghost use Rattle.sink_rounds.specs.Outlines.{IsOutlineOf, MayBeFlow};
 ghost use Rattle.sink_rounds.specs.RoundGraphs.{AreOnlyRounds, AreRounds, IsLastRound, IsOnlyRound, IsRound, KeepsGlobals, SaysChanged, last_round};
 ghost use Rattle.sink_code.specs.RoundKept.{RoundKeeps};
 ghost use Rattle.sink_code.specs.SunkGraphs.{IsSunk};
@@ -114,11 +114,11 @@ fn first_of(alloc: Global, graph: Graph) -> Result<MadeRound, Memory>
     Ok(made)
 }
 
-/// A round with its edges, its blocks and what is known of its layout.
+/// A round with what is known of its layout, and with its edges and its blocks, where they are still there.
 #[derive(Drop)]
 struct MadeRound {
     graph: Graph,
-    flow: GraphFlow,
+    flow: Option<GraphFlow>,
     outline: Outline,
     changed: bool,
 }
@@ -128,32 +128,31 @@ fn first_round(alloc: Global, graph: &Graph) -> Result<MadeRound, Memory>
     requires { IsSplit graph.now.nodes }
     ensures { IfOk result (IsMadeRound graph.now) }
 {
-    let flow = GraphFlow::of(alloc, graph)?;
-    let made = next_round(alloc, graph, flow, Outline::of(graph))?;
+    let made = next_round(alloc, graph, None, Outline::of(graph))?;
     Ok(made)
 }
 
-/// One round on a graph, whose edges and blocks are `flow`, and of whose layout this is known.
+/// One round on a graph, whose edges and blocks are `flow`, where it has some, and of whose layout this is known.
 fn next_round(
     alloc: Global,
     graph: &Graph,
-    flow: GraphFlow,
+    flow: Option<GraphFlow>,
     known: Outline,
 ) -> Result<MadeRound, Memory>
     requires split { IsSplit graph.now.nodes }
-    requires flow { IsFlowOf graph.now.nodes flow }
+    requires flow { MayBeFlow graph.now.nodes flow }
     requires known { IsOutlineOf graph.now known }
     ensures { IfOk result (IsMadeRound graph.now) }
 {
     let _nodes = graph.nodes();
     let _shared = graph.shared();
-    let made = sunk_and_pruned(alloc, graph, flow)?;
-    let _made = made.graph.nodes();
-    let compared = compare(alloc, graph, known, &made.graph)?;
-    let PrunedRound { graph, flow } = made;
+    let pruned = sunk_and_pruned(alloc, graph, flow)?;
+    let PrunedRound { graph: made, flow } = pruned;
+    let _made = made.nodes();
+    let compared = compare(alloc, graph, known, &made, flow)?;
     Ok(MadeRound {
-        graph,
-        flow,
+        graph: made,
+        flow: compared.flow,
         outline: compared.outline,
         changed: compared.changed,
     })
@@ -167,9 +166,13 @@ struct PrunedRound {
 }
 
 /// The graph whose assignments have sunk, without the dead ones. These leave its edges and blocks as they are.
-fn sunk_and_pruned(alloc: Global, graph: &Graph, flow: GraphFlow) -> Result<PrunedRound, Memory>
+fn sunk_and_pruned(
+    alloc: Global,
+    graph: &Graph,
+    flow: Option<GraphFlow>,
+) -> Result<PrunedRound, Memory>
     requires split { IsSplit graph.now.nodes }
-    requires flow { IsFlowOf graph.now.nodes flow }
+    requires flow { MayBeFlow graph.now.nodes flow }
     ensures { IfOk result (IsPrunedRound graph.now) }
 {
     let sunk = sunk_by(alloc, graph, flow)?;
@@ -184,12 +187,27 @@ fn sunk_and_pruned(alloc: Global, graph: &Graph, flow: GraphFlow) -> Result<Prun
 
 /// The graph whose assignments have sunk. The edges and the blocks of the graph before are let go, so that those of two
 /// graphs do not stand in memory at once.
-fn sunk_by(alloc: Global, graph: &Graph, flow: GraphFlow) -> Result<Graph, Memory>
+fn sunk_by(alloc: Global, graph: &Graph, flow: Option<GraphFlow>) -> Result<Graph, Memory>
     requires split { IsSplit graph.now.nodes }
-    requires flow { IsFlowOf graph.now.nodes flow }
+    requires flow { MayBeFlow graph.now.nodes flow }
     ensures exact { IfOk result (IsSunk graph.now) }
     ensures keeps { IfOk result (RoundKeeps graph.now) }
 {
+    let flow = flow_of(alloc, graph, flow)?;
     let sunk = sunk(alloc, graph, &flow)?;
     Ok(sunk)
+}
+
+/// The edges and the blocks of a graph, which are made where it has none.
+fn flow_of(alloc: Global, graph: &Graph, flow: Option<GraphFlow>) -> Result<GraphFlow, Memory>
+    requires { MayBeFlow graph.now.nodes flow }
+    ensures { IfOk result (IsFlowOf graph.now.nodes) }
+{
+    match flow {
+        Some(flow) => Ok(flow),
+        None => {
+            let flow = GraphFlow::of(alloc, graph)?;
+            Ok(flow)
+        }
+    }
 }

@@ -20,4 +20,5 @@ returns c = record {
     assigns = c.assigns-assigns.ensures ∙ ap (λ l. count_by is_assign l) c.nodes.ensures.value;
     laid = λ unit is. subst (IsLayout c.args.other.now) (same_Some c.in_ok-laid.laid unit is) c.in_ok-laid.ensures.layout;
   };
+  flow = tt;
 }

@@ -1,7 +1,7 @@
 use Rattle.std.proofs.Common.{◌≡◌, ◌<◌, ◌≤◌, ◌⊎◌, false, inl, inr, arith}
 use Rattle.sink_rounds.proofs.RoundsSoFar.{is_last, last_kept, one_before}
 use Rattle.sink_rounds.proofs.repeating.last_of_rounds.Goals as goal
-use Rattle.sink_rounds.proofs.repeating.last_of_rounds.Goals.{Joined-last, then-rounds-test+else-before, else-rounds-test}
+use Rattle.sink_rounds.proofs.repeating.last_of_rounds.Goals.{Joined-last-2, then-rounds-test+else-before, else-rounds-test}
 
 pub rounds-preserved : goal.rounds-preserved
 rounds-preserved c =
@@ -9,7 +9,7 @@ rounds-preserved c =
     one_before c.args.graph c.rounds.before c.rounds.last c.in_ok-next.next c.rounds.invariant c.rounds-test.true few c.in_ok-next.ensures
 
 -- how the loop ended
-ends : (c : Joined-last) → (c.rounds.last.changed ≡ false) ⊎ (15 ≤ c.rounds.before)
+ends : (c : Joined-last-2) → (c.rounds.last.changed ≡ false) ⊎ (15 ≤ c.rounds.before)
 ends c = elim c.rounds-test.branch [
   | then-rounds-test+else-before w ↦ inr (omega (arith, w.if-before.false))
   | else-rounds-test w ↦ inl w.rounds-test.false

@@ -5,14 +5,14 @@ use Rattle.sink_rounds.proofs.repeating.next_round.Goals as goal
 
 pub returns : goal.returns
 returns c = record {
-  round = c.in_ok-made.ensures.round;
-  flow = c.in_ok-made.ensures.flow;
+  round = c.in_ok-pruned.ensures.round;
+  flow = c.in_ok-compared.ensures.flow;
   outline = c.in_ok-compared.ensures.outline;
   changed = c.in_ok-compared.ensures.changed;
-  keeps = c.in_ok-made.ensures.keeps;
+  keeps = c.in_ok-pruned.ensures.keeps;
   best = is_best c.args.graph.now
       (subst (IsGraph c.args.graph.now.vars c.args.graph.now.received) c.nodes-nodes.ensures.value c.nodes-nodes.ensures.graph)
-      c.requires.split c.in_ok-made.made.graph c.in_ok-made.ensures.round
+      c.requires.split c.in_ok-pruned.pruned.graph c.in_ok-pruned.ensures.round
       (subst (λ k. k ≤ length c.args.graph.now.vars) c.shared-shared.ensures.value c.shared-shared.ensures.shares.count)
-      (subst (IsGraph c.in_ok-made.made.graph.vars c.in_ok-made.made.graph.received) c.nodes-made.ensures.value c.nodes-made.ensures.graph);
+      (subst (IsGraph c.in_ok-pruned.pruned.graph.vars c.in_ok-pruned.pruned.graph.received) c.nodes-made.ensures.value c.nodes-made.ensures.graph);
 }
