@@ -1,5 +1,5 @@
-// What is asked for around units, raised by numbers that are kept below all that solve them. A unit costs what rose alone;
-// that the demands serve all units is left to the sweeps that come after.
+// What is asked for around units, raised by numbers that are kept below all that solve them. A unit costs what rose, and
+// a look at each of its blocks; that the demands serve all units is left to the sweeps that come after.
 ghost use Rattle.std.specs.Prelude.{◌≡◌, ◌≤◌, ◌<◌, length, map, IfOk, OnOk};
 ghost use Rattle.mir_base.specs.Frames.{shared_vars};
 ghost use Rattle.wanted_bits.specs.KeptRows.{FitsKept, StayBelow};
@@ -22,7 +22,7 @@ use wanted_bits::{Kept, Prepared, Widths, ask_kept};
 /// How often the units are gone through at most.
 const MOST_ROUNDS: usize = 1 << 20;
 
-/// Raises the demands by what is kept of the units, until nothing rises.
+/// Raises the demands by what is kept of the units, until nothing rises or often enough.
 pub(crate) fn hasten(
     alloc: Global,
     graphs: &Vec<Graph>,
